@@ -1,0 +1,2 @@
+// Tokens, runs of tokens, and the line that is lent.
+pub mod kind;

@@ -1,1 +1,6 @@
 pub mod Kind
+pub mod Line
+pub mod Run
+pub mod Names
+pub mod Kept
+pub mod Parts

@@ -59,7 +59,7 @@ someOver (k ∷ ks) = ltb largest k || someOver ks
 unfoldable pub misplaced : (size end : ℕ) → List ℕ → Bool
 misplaced size end [] = false
 misplaced size end (o ∷ []) = false
-misplaced size end (o ∷ n ∷ ps) = ltb o end || ltb size (o + n) || misplaced size (o + n) ps
+misplaced size end (o ∷ n ∷ ps) = ltb o end || (ltb size (o + n) || misplaced size (o + n) ps)
 
 -- "Checks run downward; the first that applies is returned": `check t n rest` is n where t says that the check applies
 abbrev pub check : Bool → ℕ → ℕ → ℕ

@@ -1,5 +1,6 @@
 // Tokens and runs of tokens of a lent line.
 pub mod kind;
+pub mod line;
 pub mod runs;
 
 // A token place: counts tokens.
@@ -12,4 +13,10 @@ pub struct ByteOffset(pub usize);
 pub struct Run {
     pub place: TokenPlace,
     pub count: usize,
+}
+
+// Whether a line is a block attribute list, or the number with which it is refused.
+pub enum BlockLine {
+    Refused(usize),
+    Is(bool),
 }

@@ -6,3 +6,4 @@ pub mod Names
 pub mod Kept
 pub mod Parts
 pub mod LineLaws
+pub mod NamesLaws

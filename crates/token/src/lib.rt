@@ -1,6 +1,7 @@
 // Tokens and runs of tokens of a lent line.
 pub mod kind;
 pub mod line;
+pub mod names;
 pub mod runs;
 
 // A token place: counts tokens.

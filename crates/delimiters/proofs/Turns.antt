@@ -50,8 +50,8 @@ going-start kinds cs =
     zeros single = refl
 
 -- one stretch is rejoined
-pub due-less : (t : State) (cs : List ℕ) (n : ℕ) (f : Quote → ℕ) (i remain : ℕ) → remain < n → Due t cs n f i remain → Due t cs (n - 1) f i remain
-due-less t cs n f i remain lt w =
+pub due-less : {t : State} {cs : List ℕ} {n : ℕ} {f : Quote → ℕ} {i remain : ℕ} → remain < n → Due t cs n f i remain → Due t cs (n - 1) f i remain
+due-less {t} {cs} {n} {f} {i} {remain} lt w =
     record {
       some = w .some;
       few = omega (arith, w .few);
@@ -61,8 +61,8 @@ due-less t cs n f i remain lt w =
     }
 
 -- no more than those remain: the token is counted
-pub due-done : (kinds cs cs₀ : List ℕ) (n n₀ : ℕ) (f g : Quote → ℕ) (i remain : ℕ) → n ≤ remain → i + 1 < length kinds → (kindAt kinds i ≡ closeBracket → ⊥) → Going kinds cs₀ n₀ g i → Due (after kinds (suc i)) cs n f i remain → Going kinds cs n f (i + 1)
-due-done kinds cs cs₀ n n₀ f g i remain le lt shut v w =
+pub due-done : {kinds cs cs₀ : List ℕ} {n n₀ : ℕ} {f g : Quote → ℕ} {i remain : ℕ} → n ≤ remain → i + 1 < length kinds → (kindAt kinds i ≡ closeBracket → ⊥) → Going kinds cs₀ n₀ g i → Due (after kinds (suc i)) cs n f i remain → Going kinds cs n f (i + 1)
+due-done {kinds} {cs} {cs₀} {n} {n₀} {f} {g} {i} {remain} le lt shut v w =
     rw add-one
     (record {
       some = w .whole;
@@ -90,10 +90,10 @@ pub record Arm (kinds cs₀ : List ℕ) (i : ℕ) (cs : List ℕ) (n d s remain 
   pub shut : kindAt kinds i ≡ closeBracket → ⊥
   pub stores : (lent : List ℕ) → cs₀ ≡ storedAfter kinds lent i → cs ≡ storedAfter kinds lent (suc i)
 
-pub arm-moved : (kinds cs₀ : List ℕ) (i : ℕ) (cs cs′ : List ℕ) (n n′ d d′ s s′ remain remain′ : ℕ) → cs ≡ cs′ → n ≡ n′ → d ≡ d′ → s ≡ s′ → remain ≡ remain′ → Arm kinds cs₀ i cs′ n′ d′ s′ remain′ → Arm kinds cs₀ i cs n d s remain
-arm-moved kinds cs₀ i cs cs′ n n′ d d′ s s′ remain remain′ e₁ e₂ e₃ e₄ e₅ w = rw (e₁, e₂, e₃, e₄, e₅) w
+pub arm-moved : {kinds cs₀ : List ℕ} {i : ℕ} {cs cs′ : List ℕ} {n n′ d d′ s s′ remain remain′ : ℕ} → cs ≡ cs′ → n ≡ n′ → d ≡ d′ → s ≡ s′ → remain ≡ remain′ → Arm kinds cs₀ i cs′ n′ d′ s′ remain′ → Arm kinds cs₀ i cs n d s remain
+arm-moved e₁ e₂ e₃ e₄ e₅ w = rw (e₁, e₂, e₃, e₄, e₅) w
 
-module _ (kinds cs : List ℕ) (n d s i : ℕ) (v : Going kinds cs n (notes d s) i) (big : length kinds ≤ length cs) (lt : i + 1 < length kinds) where
+module _ {kinds cs : List ℕ} {n d s i : ℕ} (v : Going kinds cs n (notes d s) i) (big : length kinds ≤ length cs) (lt : i + 1 < length kinds) where
   long : length (after kinds i .commas) ≡ n - 1
   long = ap length (sym (v .places)) ∙ length-take-le (n - 1) cs (omega (arith, v .few))
 

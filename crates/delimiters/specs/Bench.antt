@@ -2,12 +2,12 @@
 use Prim.Native.Nat.{ℕ, zero, suc, _<_}
 use native.Mathlib.Omega.{arith}
 use mathlib.Core.Path.{_≡_, refl}
-use mathlib.Core.List.{List, [], _∷_}
+use mathlib.Core.List.{List, [], _∷_, map}
 use mathlib.Core.Logic.{inl, inr}
 use lib.Dec.{lit<}
 use lib.ListN.{length, getD}
 use Rattle.token.specs.Kind.{backslash, closeBracket, comma, doubleQuote, dots, equalSigns, hash, percent, singleQuote, word}
-use Rattle.delimiters.specs.Count.{counted, double, single}
+use Rattle.delimiters.specs.Count.{counted, Quote, double, single}
 use Rattle.delimiters.specs.Delimit.{start, atComma, rejoin, rejoinTimes, rejoinTo, note, atQuote, step, after, dividing, Stretch, parted, attributes}
 use Rattle.delimiters.specs.Pairs.{before, Pair, Cross, Inside, Uncrossed}
 use Rattle.delimiters.specs.Divide.{Divides}
@@ -67,17 +67,20 @@ cases =
     }
     ∷ []
 
-abbrev pub Right : Case → Type 0
-Right c = (counted (c .kinds) ≡ c .count) × (dividing (c .kinds) ≡ c .commas) × (attributes (c .kinds) (c .end) ≡ c .attrs)
+-- a case with what the definitions give
+abbrev pub computed : Case → Case
+computed c =
+    record {
+      kinds = c .kinds;
+      end = c .end;
+      count = counted (c .kinds);
+      commas = dividing (c .kinds);
+      attrs = attributes (c .kinds) (c .end);
+    }
 
-abbrev pub AllRight : List Case → Type 0
-AllRight [] = Unit {0}
-AllRight (c ∷ cs) = Right c × AllRight cs
-
-pub all-right : AllRight cases
+pub cases-hold : map computed cases ≡ cases
 unfolding counted start atComma rejoin rejoinTimes rejoinTo note atQuote step after dividing parted attributes
-all-right =
-    ((refl, refl, refl), ((refl, refl, refl), ((refl, refl, refl), ((refl, refl, refl), ((refl, refl, refl), ((refl, refl, refl), ((refl, refl, refl), ((refl, refl, refl), ((refl, refl, refl), ((refl, refl, refl), ((refl, refl, refl), ((refl, refl, refl), tt))))))))))))
+cases-hold = refl
 
 -- ---- `",'",']`: its pairs cross, and the comma at 4 is inside one and divides, while the comma at 1 is inside the other and does not
 
@@ -122,3 +125,7 @@ one-joined w = go (w .index) (w .listed) (w .is)
     go : (j : ℕ) → j < length (dividing crossing) → getD (dividing crossing) j 0 ≡ 1 → ⊥
     go zero lt e = omega arith
     go (suc j) lt e = omega arith
+
+-- so it is not true of all lines that a comma inside a pair does not divide
+pub not-always-joined : ((kinds : List ℕ) (q : Quote) (p : ℕ) → Inside kinds q p → Divides kinds p → ⊥) → ⊥
+not-always-joined h = h crossing single 4 four-inside four-divides

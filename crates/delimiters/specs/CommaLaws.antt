@@ -11,14 +11,10 @@ use borrow.Author.Tests.{lt-ltb, le-ltb, le-leb, lt-leb, eq-eqb, ne-eqb}
 use Rattle.token.specs.Kind.{comma}
 use Rattle.delimiters.specs.Count.{kindAt}
 use Rattle.delimiters.specs.Delimit.{start, after, Stretch, parted}
-use Rattle.delimiters.specs.Divide.{times, held}
+use Rattle.delimiters.specs.Divide.{times, held, Ascending}
 use Rattle.delimiters.specs.StepLaws.{Turn, pushed, kept, cut, turn}
 
--- ---- the places ascend, from f on and below n
-
-abbrev pub Ascending : ℕ → List ℕ → ℕ → Type 0
-Ascending f [] n = f ≤ n
-Ascending f (c ∷ cs) n = (f ≤ c) × Ascending (c + 1) cs n
+-- ---- places that ascend
 
 pub ascending-end : (f : ℕ) (cs : List ℕ) (n : ℕ) → Ascending f cs n → f ≤ n
 ascending-end f [] n h = h

@@ -36,7 +36,7 @@ unfoldable pub rejoinTimes : ℕ → State → State
 rejoinTimes zero s = s
 rejoinTimes (suc n) s = rejoinTimes n (rejoin s)
 
--- "while more than that remain": once for each stretch more than n.
+-- "while more than that remain": once for each stretch more than n (`rejoin-while` of StepLaws says it as a loop).
 unfoldable pub rejoinTo : ℕ → State → State
 rejoinTo n s = rejoinTimes (stretches s - n) s
 
@@ -50,7 +50,8 @@ put single n f single = n
 unfoldable pub note : Quote → ℕ → State → State
 note q n s = record { commas = s .commas; noted = put q n (s .noted) }
 
--- "A first quote of a kind notes how many stretches there are; the second rejoins .. while more than that remain." The number is what is noted.
+-- "A first quote of a kind notes how many stretches there are; the second rejoins .. while more than that remain": a quote, by what is noted of its
+-- kind. Nothing is noted before a first one, nor after a second.
 unfoldable pub atQuote : Quote → ℕ → State → State
 atQuote q zero s = note q (stretches s) s
 atQuote q (suc n) s = note q 0 (rejoinTo (suc n) s)

@@ -20,6 +20,11 @@ unfoldable pub held : ℕ → List Stretch → ℕ
 held p [] = 0
 held p (s ∷ ss) = cond (leb (s .from) p && ltb p (s .to)) (suc (held p ss)) (held p ss)
 
+-- the places ascend, the first not before f, the last before n
+abbrev pub Ascending : ℕ → List ℕ → ℕ → Type 0
+Ascending f [] n = f ≤ n
+Ascending f (c ∷ cs) n = (f ≤ c) × Ascending (c + 1) cs n
+
 -- the comma at place p is a dividing one
 pub record Divides (kinds : List ℕ) (p : ℕ) : Type 0 where
   pub index : ℕ
@@ -37,6 +42,8 @@ pub record Divided (kinds : List ℕ) (end : ℕ) : Type 0 where
   pub within : counted kinds ≤ end
   -- each token before it, counted or not, is in exactly one attribute or is exactly one dividing comma, never both
   pub each-once : (p : ℕ) → p < end → held p (attributes kinds end) + times p (dividing kinds) ≡ 1
+  -- the dividing commas are listed first to last, each once
+  pub in-order : Ascending 0 (dividing kinds) (counted kinds)
   -- a dividing comma is a counted comma
   pub only-commas : (p : ℕ) → Divides kinds p → (p < counted kinds) × (kindAt kinds p ≡ comma)
   -- a counted comma inside no complete pair divides, crossing pairs or not

@@ -11,10 +11,10 @@ use Rattle.token.specs.Kind.{comma, closeBracket}
 use Rattle.delimiters.specs.Count.{counted, kindAt, Quote, double, single}
 use Rattle.delimiters.specs.Delimit.{start, after, dividing, parted, attributes}
 use Rattle.delimiters.specs.Pairs.{Pair, OneBetween, Inside, Uncrossed}
-use Rattle.delimiters.specs.Divide.{times, held, Divides, Closes, Divided}
+use Rattle.delimiters.specs.Divide.{times, held, Ascending, Divides, Closes, Divided}
 use Rattle.delimiters.specs.CountLaws.{counts, bracket-past, count-some}
 use Rattle.delimiters.specs.StepLaws.{twin}
-use Rattle.delimiters.specs.CommaLaws.{Ascending, ascending-to, ascending-length, ascending-at, ascends, comma-at, part-once}
+use Rattle.delimiters.specs.CommaLaws.{ascending-to, ascending-length, ascending-at, ascends, comma-at, part-once}
 use Rattle.delimiters.specs.PairLaws.{stays, gone}
 
 -- ---- the dividing commas: they ascend and are counted; none where nothing is counted
@@ -100,6 +100,7 @@ divided kinds end w =
     record {
       within = within;
       each-once = λ p lt. each-once kinds end p (closes-some kinds end w (omega arith)) within lt;
+      in-order = dividing-ascend kinds;
       only-commas = only-commas kinds;
       outside = outside-divides kinds;
       inside = inside-joins kinds;

@@ -13,7 +13,8 @@ pub struct Delimited {
     pub commas: usize,
 }
 
-// Delimits a line by the kinds of its tokens, and leaves the places of the dividing commas, first to last, at the front of `commas`.
+// Delimits a line by the kinds of its tokens, and leaves the places of the dividing commas, first to last, at the front of `commas`. The slice has
+// room for every token, and its numbers for every place.
 pub fn find_delimiters(kinds: &[u8], commas: &mut [u16]) -> Delimited
     requires { ⌜ (length (now kinds) ≤ length (now commas)) × (length (now kinds) ≤ 65536) ⌝ }
     ensures count { λ r. ⌜ r .counted ≡ counted (now (kinds .entry)) ⌝ }

@@ -29,35 +29,27 @@ Inv-tokens kinds commas₀ stretches₀ double₀ single₀ i₀ commas stretche
 abbrev μ-tokens : tie.MeasureT-tokens
 μ-tokens kinds commas₀ stretches₀ double₀ single₀ i₀ commas stretches double single i = length kinds - i
 
--- src/lib.rt:30:5
 tokens-holds : tie.Need-tokens-holds Inv-loop μ-loop Inv-tokens μ-tokens
 tokens-holds c = (refl, stored-start (c .args .kinds .now) (c .args .commas .now), going-start (c .args .kinds .now) (c .args .commas .now))
 
--- src/lib.rt:30:20
 add-tokens : tie.Need-add-tokens Inv-loop μ-loop Inv-tokens μ-tokens
 add-tokens c = search needs
 
--- src/lib.rt:33:15
 shared-slice-read-match : tie.Need-shared-slice-read-match Inv-loop μ-loop Inv-tokens μ-tokens
 shared-slice-read-match c = search needs
 
--- src/lib.rt:36:41
 cast-commas : tie.Need-cast-commas Inv-loop μ-loop Inv-tokens μ-tokens
 cast-commas c = search needs
 
--- src/lib.rt:36:24
 sub-commas : tie.Need-sub-commas Inv-loop μ-loop Inv-tokens μ-tokens
 sub-commas c = search needs
 
--- src/lib.rt:36:17
 mul-commas : tie.Need-mul-commas Inv-loop μ-loop Inv-tokens μ-tokens
 mul-commas c = search needs
 
--- src/lib.rt:36:17
 slice-write-commas : tie.Need-slice-write-commas Inv-loop μ-loop Inv-tokens μ-tokens
 slice-write-commas c = search needs
 
--- src/lib.rt:37:17
 add-stretches : tie.Need-add-stretches Inv-loop μ-loop Inv-tokens μ-tokens
 add-stretches c = search needs
 
@@ -75,45 +67,38 @@ met c =
     let lt = c .before .before .tokens-test .taken in
     let v = at .inv .2 in
     ⊎-elim
-    (λ w. arm-moved _ _ _ _ _ _ _ _ _ _ _ _ _ (w .1) (w .2) (w .3) (w .4) (w .5) (arm-comma _ _ _ _ _ _ v big lt (w .0 .keys2)))
+    (λ w. arm-moved (w .1) (w .2) (w .3) (w .4) (w .5) (arm-comma v big lt (w .0 .keys2)))
     (⊎-elim
-    (λ w. arm-moved _ _ _ _ _ _ _ _ _ _ _ _ _ (w .2) (w .3) (w .4) (w .5) (w .6) (arm-first _ _ _ _ _ _ v big lt Quote.double (w .0 .keys3) (w .1 .taken)))
+    (λ w. arm-moved (w .2) (w .3) (w .4) (w .5) (w .6) (arm-first v big lt Quote.double (w .0 .keys3) (w .1 .taken)))
     (⊎-elim
-    (λ w. arm-moved _ _ _ _ _ _ _ _ _ _ _ _ _ (w .2) (w .3) (w .4) (w .5) (w .6) (arm-second _ _ _ _ _ _ v big lt Quote.double (w .0 .keys3) (w .1 .left)))
+    (λ w. arm-moved (w .2) (w .3) (w .4) (w .5) (w .6) (arm-second v big lt Quote.double (w .0 .keys3) (w .1 .left)))
     (⊎-elim
-    (λ w. arm-moved _ _ _ _ _ _ _ _ _ _ _ _ _ (w .2) (w .3) (w .4) (w .5) (w .6) (arm-first _ _ _ _ _ _ v big lt Quote.single (w .0 .keys4) (w .1 .taken)))
+    (λ w. arm-moved (w .2) (w .3) (w .4) (w .5) (w .6) (arm-first v big lt Quote.single (w .0 .keys4) (w .1 .taken)))
     (⊎-elim
-    (λ w. arm-moved _ _ _ _ _ _ _ _ _ _ _ _ _ (w .2) (w .3) (w .4) (w .5) (w .6) (arm-second _ _ _ _ _ _ v big lt Quote.single (w .0 .keys4) (w .1 .left)))
-    (λ w. arm-moved _ _ _ _ _ _ _ _ _ _ _ _ _ (w .1) (w .2) (w .3) (w .4) (w .5) (arm-other _ _ _ _ _ _ v big lt (w .0 .rest .0 .0 .0 .1) (w .0 .rest .0 .0 .1) (w .0 .rest .0 .1) (w .0 .rest .1)))))))
+    (λ w. arm-moved (w .2) (w .3) (w .4) (w .5) (w .6) (arm-second v big lt Quote.single (w .0 .keys4) (w .1 .left)))
+    (λ w. arm-moved (w .1) (w .2) (w .3) (w .4) (w .5) (arm-other v big lt (w .0 .rest .0 .0 .0 .1) (w .0 .rest .0 .0 .1) (w .0 .rest .0 .1) (w .0 .rest .1)))))))
     (c .match .came)
 
--- src/lib.rt:60:9
 loop-holds : tie.Need-loop-holds Inv-loop μ-loop Inv-tokens μ-tokens
 loop-holds c = met c .due
 
--- src/lib.rt:61:13
 sub-stretches : tie.Need-sub-stretches Inv-loop μ-loop Inv-tokens μ-tokens
 sub-stretches c = search needs
 
--- src/lib.rt:60:9
 loop-less : tie.Need-loop-less Inv-loop μ-loop Inv-tokens μ-tokens
 loop-less c = search needs
 
--- src/lib.rt:60:9
 loop-again : tie.Need-loop-again Inv-loop μ-loop Inv-tokens μ-tokens
 loop-again c =
     let at = c .before .before in
-    due-less _ (at .before .match .commas) (at .loop .stretches) _ _ (at .before .match .remain) (c .before .loop-test .taken) (at .loop .inv)
+    due-less (c .before .loop-test .taken) (at .loop .inv)
 
--- src/lib.rt:63:9
 add-i : tie.Need-add-i Inv-loop μ-loop Inv-tokens μ-tokens
 add-i c = search needs
 
--- src/lib.rt:30:5
 tokens-less : tie.Need-tokens-less Inv-loop μ-loop Inv-tokens μ-tokens
 tokens-less c = search needs
 
--- src/lib.rt:30:5
 tokens-again : tie.Need-tokens-again Inv-loop μ-loop Inv-tokens μ-tokens
 tokens-again c =
     let came = c .before .before in
@@ -121,18 +106,15 @@ tokens-again c =
     let arm = met came in (
       arm .long ∙ at .tokens .inv .0,
       rw add-one (arm .stores _ (at .tokens .inv .1)),
-      due-done _ _ _ _ _ _ _ _ _ (c .loop-test .left) (came .before .before .tokens-test .taken) (arm .shut) (at .tokens .inv .2) (c .before .loop .inv),
+      due-done (c .loop-test .left) (came .before .before .tokens-test .taken) (arm .shut) (at .tokens .inv .2) (c .before .loop .inv),
     )
 
--- src/lib.rt:67:17
 sub-between : tie.Need-sub-between Inv-loop μ-loop Inv-tokens μ-tokens
 sub-between c = search needs
 
--- src/lib.rt:17:1
 same-length : tie.Need-same-length Inv-loop μ-loop Inv-tokens μ-tokens
 same-length c = search needs
 
--- src/lib.rt:17:1
 returns : tie.Need-returns Inv-loop μ-loop Inv-tokens μ-tokens
 returns c =
     let at = c .before .tokens in

@@ -1,4 +1,4 @@
--- Document 01's lines, and three more, delimited: what the definitions give, computed.
+-- Document 01's lines, and four more, delimited: what the definitions give, computed.
 use Prim.Native.Nat.{ℕ, zero, suc, _<_}
 use native.Mathlib.Omega.{arith}
 use mathlib.Core.Path.{_≡_, refl}
@@ -57,6 +57,14 @@ cases =
     ∷ record { kinds = word ∷ backslash ∷ closeBracket ∷ comma ∷ word ∷ closeBracket ∷ []; end = 5; count = 2; commas = []; attrs = to 0 5 ∷ [] }
     -- `a",b]`: an odd last quote makes no pair
     ∷ record { kinds = word ∷ doubleQuote ∷ comma ∷ word ∷ closeBracket ∷ []; end = 4; count = 4; commas = 2 ∷ []; attrs = to 0 2 ∷ to 3 4 ∷ [] }
+    -- `"a,b","c,d",e]`: first with second, third with fourth
+    ∷ record {
+      kinds = doubleQuote ∷ word ∷ comma ∷ word ∷ doubleQuote ∷ comma ∷ doubleQuote ∷ word ∷ comma ∷ word ∷ doubleQuote ∷ comma ∷ word ∷ closeBracket ∷ [];
+      end = 13;
+      count = 13;
+      commas = 5 ∷ 11 ∷ [];
+      attrs = to 0 5 ∷ to 6 11 ∷ to 12 13 ∷ [];
+    }
     -- `",a,',b,',",c]`: a second quote rejoins all that came since its first, and only that
     ∷ record {
       kinds = doubleQuote ∷ comma ∷ word ∷ comma ∷ singleQuote ∷ comma ∷ word ∷ comma ∷ singleQuote ∷ comma ∷ doubleQuote ∷ comma ∷ word ∷ closeBracket ∷ [];

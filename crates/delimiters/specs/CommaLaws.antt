@@ -1,11 +1,11 @@
 -- Laws of commas that ascend, and of the stretches that they part.
-use Prim.Native.Nat.{ℕ, zero, suc, _+_, _≤_, _<_}
+use Prim.Native.Nat.{ℕ, zero, suc, _+_, _-_, _≤_, _<_}
 use native.Mathlib.Omega.{arith}
 use native.Mathlib.Numerals.{add-one}
 use native.Mathlib.Decide.{decLt}
 use mathlib.Core.Path.{_≡_, refl, ap, subst}
 use mathlib.Core.List.{List, [], _∷_, _++_}
-use lib.ListN.{length, getD, take, drop}
+use lib.ListN.{length, getD, take, drop, length-append, length-take}
 use lib.Seq.{drop-cons, drop-length}
 use borrow.Author.Tests.{lt-ltb, le-ltb, le-leb, lt-leb, eq-eqb, ne-eqb}
 use Rattle.token.specs.Kind.{comma}
@@ -99,6 +99,26 @@ module _ (kinds : List ℕ) where
   pub comma-at : (i j : ℕ) → j < length (after kinds i .commas) → kindAt kinds (getD (after kinds i .commas) j 0) ≡ comma
   unfolding IsComma
   comma-at i j lt = all-at IsComma (after kinds i .commas) j (commas-all i) lt
+
+-- ---- the time: a line has no more rejoinings in all than tokens
+
+module _ (kinds : List ℕ) where
+  -- how many stretches are rejoined while the first i tokens are counted
+  unfoldable pub rejoinings : ℕ → ℕ
+  rejoinings zero = 0
+  rejoinings (suc i) = rejoinings i + (length (after kinds i .commas) - length (after kinds (suc i) .commas))
+
+  rejoinings-more : (i : ℕ) → rejoinings i + length (after kinds i .commas) ≤ i → Turn kinds i → rejoinings (suc i) + length (after kinds (suc i) .commas) ≤ suc i
+  unfolding rejoinings
+  rejoinings-more i h (pushed c e) = rw e (omega (arith, length-append (after kinds i .commas) (i ∷ [])))
+  rejoinings-more i h (kept e) = rw e (omega arith)
+  rejoinings-more i h (cut q d c f e) = rw e (omega (arith, length-take d (after kinds i .commas)))
+
+  -- each took back a comma that was put for a token of its own
+  pub rejoinings-few : (i : ℕ) → rejoinings i + length (after kinds i .commas) ≤ i
+  unfolding rejoinings after start
+  rejoinings-few zero = omega arith
+  rejoinings-few (suc i) = rejoinings-more i (rejoinings-few i) (turn kinds i)
 
 -- ---- each place is in one of the stretches or is one of the commas that part them
 

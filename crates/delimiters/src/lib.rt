@@ -56,8 +56,8 @@ pub fn find_delimiters(kinds: &[u8], commas: &mut [u16]) -> Delimited
             }
             _ => {}
         }
-        // Rejoin the last stretch to the one before it while more remain. A turn takes back one comma that was stored for an earlier token, and no
-        // token stores more than one: over the whole line these turns are fewer than the tokens, so the time is linear.
+        // Rejoin the last stretch to the one before it while more than those remain. A turn takes back a comma that was stored for a token of its own,
+        // so over a whole line there are fewer turns than tokens (`rejoinings-few` of CommaLaws): the time is linear.
         while remain < stretches {
             stretches -= 1;
         }

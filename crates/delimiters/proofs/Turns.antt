@@ -12,11 +12,10 @@ use borrow.Author.Tests.{eq-eqb, ne-eqb}
 use borrow.Author.Count.{below-more}
 use Rattle.token.specs.Kind.{closeBracket, comma, doubleQuote, singleQuote}
 use Rattle.delimiters.specs.Count.{counted, kindAt, Quote, double, single, quoteKind}
-use Rattle.delimiters.specs.Delimit.{State, start, atComma, rejoinTo, put, note, atQuote, after, dividing}
+use Rattle.delimiters.specs.Delimit.{State, start, atComma, put, note, atQuote, after, dividing}
 use Rattle.delimiters.specs.Stored.{storedAfter, stored}
-use Rattle.delimiters.specs.CountLaws.{Counts, count-is, counts}
+use Rattle.delimiters.specs.CountLaws.{count-is}
 use Rattle.delimiters.specs.StepLaws.{rejoined, rejoined-noted, comma-apart, after-comma, after-quote, after-other}
-use Rattle.delimiters.specs.DivideLaws.{dividing-few}
 
 -- the code's two notes, by the kind of quote
 abbrev pub notes : ℕ → ℕ → Quote → ℕ

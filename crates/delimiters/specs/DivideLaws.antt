@@ -1,19 +1,19 @@
 -- Every line is divided as specs/Divide.antt says.
-use Prim.Native.Nat.{ℕ, zero, suc, _+_, _-_, _≤_, _<_}
+use Prim.Native.Nat.{ℕ, _+_, _≤_, _<_}
 use native.Mathlib.Omega.{arith}
 use native.Mathlib.Decide.{decLt}
-use mathlib.Core.Path.{_≡_, refl, sym, ap, subst, _∙_}
-use mathlib.Core.List.{List, [], _∷_}
+use mathlib.Core.Path.{_≡_, sym, ap, subst, _∙_}
+use mathlib.Core.List.{List, []}
 use mathlib.Core.Logic.{inl, inr}
 use lib.ListN.{length, getD, List·getD-eq-default}
-use borrow.Author.Tests.{eq-eqb, ne-eqb}
+use borrow.Author.Tests.{ne-eqb}
 use Rattle.token.specs.Kind.{comma, closeBracket}
 use Rattle.delimiters.specs.Count.{counted, kindAt, Quote, double, single}
 use Rattle.delimiters.specs.Delimit.{start, after, dividing, parted, attributes}
 use Rattle.delimiters.specs.Pairs.{Pair, OneBetween, Inside, Uncrossed}
 use Rattle.delimiters.specs.Divide.{times, held, Ascending, Divides, Closes, Divided}
-use Rattle.delimiters.specs.CountLaws.{counts, bracket-past, count-some}
-use Rattle.delimiters.specs.StepLaws.{twin}
+use Rattle.delimiters.specs.CountLaws.{bracket-past, count-some}
+use Rattle.delimiters.specs.StepLaws.{otherQuote}
 use Rattle.delimiters.specs.CommaLaws.{ascending-to, ascending-length, ascending-at, ascends, comma-at, part-once}
 use Rattle.delimiters.specs.PairLaws.{stays, gone}
 
@@ -75,7 +75,7 @@ outside-divides kinds p lt e out =
 
 -- ---- where no single-quote pair crosses a double-quote pair, one inside a complete pair does not
 
-uncrossed-by : (kinds : List ℕ) → Uncrossed kinds → (q : Quote) (a b : ℕ) → Pair kinds q a b → (c d : ℕ) → Pair kinds (twin q) c d → OneBetween a b c d → ⊥
+uncrossed-by : (kinds : List ℕ) → Uncrossed kinds → (q : Quote) (a b : ℕ) → Pair kinds q a b → (c d : ℕ) → Pair kinds (otherQuote q) c d → OneBetween a b c d → ⊥
 uncrossed-by kinds h double a b pr c d pr′ o = h c d a b pr′ pr (inr o)
 uncrossed-by kinds h single a b pr c d pr′ o = h a b c d pr pr′ (inl o)
 

@@ -4,7 +4,7 @@ use native.Mathlib.Omega.{arith}
 use native.Mathlib.Nat.{eq-or-lt-of-le}
 use native.Mathlib.Decide.{decLt}
 use mathlib.Core.Bool.{Bool, true, false, cond}
-use mathlib.Core.Path.{_≡_, refl, sym, ap, subst, _∙_}
+use mathlib.Core.Path.{_≡_, sym, ap, subst, _∙_}
 use mathlib.Core.List.{List, [], _∷_, _++_}
 use mathlib.Core.Logic.{_⊎_, inl, inr}
 use lib.Dec.{eqb}
@@ -13,8 +13,8 @@ use lib.Seq.{take-length, take-take, take-append-le, getD-append-seam, getD-take
 use Rattle.token.specs.Kind.{comma}
 use Rattle.delimiters.specs.Count.{counted, kindAt, Quote, quoteKind}
 use Rattle.delimiters.specs.Delimit.{State, stretches, atComma, after}
-use Rattle.delimiters.specs.Pairs.{before, Between, OneBetween, Nth, Pair, Inside}
-use Rattle.delimiters.specs.StepLaws.{twin, same-or-twin, twin-apart, comma-apart, after-comma, after-second, before-one, Turn, pushed, kept, cut, turn, Open, none, since, open-at}
+use Rattle.delimiters.specs.Pairs.{before, Between, OneBetween, Pair, Inside}
+use Rattle.delimiters.specs.StepLaws.{otherQuote, same-or-other, quotes-apart, comma-apart, after-comma, after-second, before-one, Turn, pushed, kept, cut, turn, Open, none, since, open-at}
 use Rattle.delimiters.specs.CommaLaws.{ascending-at, ascends}
 
 -- ---- a counted comma that is inside no complete pair stays to the end
@@ -115,7 +115,7 @@ nth-same kinds q i k hi hk e = go (decLt i k) (decLt k i)
 -- ---- a pair that none of the other kind crosses: its second quote leaves the commas that were there at its first
 
 module _ (kinds : List ℕ) (q : Quote) (a b : ℕ) (pair : Pair kinds q a b)
-    (uncrossed : (c d : ℕ) → Pair kinds (twin q) c d → OneBetween a b c d → ⊥) where
+    (uncrossed : (c d : ℕ) → Pair kinds (otherQuote q) c d → OneBetween a b c d → ⊥) where
   -- the commas that were there at the first quote are still there
   Kept : ℕ → Type 0
   Kept i = (length (after kinds a .commas) ≤ length (after kinds i .commas)) × (take (length (after kinds a .commas)) (after kinds i .commas) ≡ after kinds a .commas)
@@ -136,11 +136,11 @@ module _ (kinds : List ℕ) (q : Quote) (a b : ℕ) (pair : Pair kinds q a b)
   not-own i j le lt h e = omega (arith, pair .opens .number, pair .closes .number, before-more kinds q a i le, before-past kinds q i b h lt)
 
   -- and its first quote is between them too, since the pairs do not cross
-  not-before : (i j o : ℕ) → a ≤ i → i < b → kindAt kinds i ≡ quoteKind (twin q) → o < i → kindAt kinds o ≡ quoteKind (twin q) → before (twin q) kinds o ≡ 2 * j → before (twin q) kinds i ≡ 2 * j + 1 → a < o
+  not-before : (i j o : ℕ) → a ≤ i → i < b → kindAt kinds i ≡ quoteKind (otherQuote q) → o < i → kindAt kinds o ≡ quoteKind (otherQuote q) → before (otherQuote q) kinds o ≡ 2 * j → before (otherQuote q) kinds i ≡ 2 * j + 1 → a < o
   not-before i j o le lt h lo ho bo bi = go (decLt a o)
     where
       here : (a ≡ i) ⊎ (a < i) → a < i
-      here (inl e) = absurd (twin-apart q (sym h ∙ ap (kindAt kinds) (sym e) ∙ pair .opens .holds))
+      here (inl e) = absurd (quotes-apart q (sym h ∙ ap (kindAt kinds) (sym e) ∙ pair .opens .holds))
       here (inr l) = l
 
       go : Dec (a < o) → a < o
@@ -156,7 +156,7 @@ module _ (kinds : List ℕ) (q : Quote) (a b : ℕ) (pair : Pair kinds q a b)
           (inr ((λ w. l (w .after-first)), record { after-first = here (eq-or-lt-of-le le); before-second = lt })))
 
   -- so it leaves those commas
-  kept-cut : (i d : ℕ) (r : Quote) → a ≤ i → i < b → kindAt kinds i ≡ quoteKind r → after kinds i .noted r ≡ suc d → ((k : ℕ) → a ≤ k → k ≤ i → Kept k) → (r ≡ q) ⊎ (r ≡ twin q) → Open kinds r i → length (after kinds a .commas) ≤ d
+  kept-cut : (i d : ℕ) (r : Quote) → a ≤ i → i < b → kindAt kinds i ≡ quoteKind r → after kinds i .noted r ≡ suc d → ((k : ℕ) → a ≤ k → k ≤ i → Kept k) → (r ≡ q) ⊎ (r ≡ otherQuote q) → Open kinds r i → length (after kinds a .commas) ≤ d
   unfolding Kept
   kept-cut i d r le lt h f ih w (none j bi z) = absurd (omega arith)
   kept-cut i d r le lt h f ih (inl e) (since j o lo ho bo bi z) = absurd (not-own i j le lt (h ∙ ap quoteKind e) (ap (λ (x : Quote). before x kinds i) (sym e) ∙ bi))
@@ -175,7 +175,7 @@ module _ (kinds : List ℕ) (q : Quote) (a b : ℕ) (pair : Pair kinds q a b)
   kept-more i le lt ih (cut r d h f e) =
       let l = after kinds i .commas in
       let w = ih i le (omega arith) in
-      let low = kept-cut i d r le lt h f ih (same-or-twin q r) (open-at kinds r i) in
+      let low = kept-cut i d r le lt h f ih (same-or-other q r) (open-at kinds r i) in
       rw e (omega (arith, w .0, low, length-take d l), take-take _ d l low ∙ w .1)
 
   kept-below : (i k : ℕ) → a ≤ k → k ≤ i → i ≤ b → Kept k

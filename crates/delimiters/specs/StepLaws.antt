@@ -1,5 +1,5 @@
 -- Laws of the stretches as the count goes: what one token does to the commas between them and to what is noted.
-use Prim.Native.Nat.{ℕ, zero, suc, _+_, _-_, _*_, _≤_, _<_}
+use Prim.Native.Nat.{ℕ, zero, suc, _+_, _-_, _*_, _<_}
 use native.Mathlib.Omega.{arith}
 use native.Mathlib.Decide.{decLt}
 use mathlib.Core.Bool.{Bool, true, false, cond}
@@ -7,7 +7,7 @@ use mathlib.Core.Path.{_≡_, refl, sym, ap, _∙_}
 use mathlib.Core.List.{List, [], _∷_, _++_}
 use mathlib.Core.Logic.{_⊎_, inl, inr}
 use lib.Dec.{eqb, ltb}
-use lib.ListN.{length, take, length-take}
+use lib.ListN.{length, take}
 use lib.Seq.{take-all, take-take, length-take-le}
 use borrow.Author.Tests.{eqb-true, eqb-false, ne-eqb, eq-eqb, lt-ltb, le-ltb}
 use Rattle.token.specs.Kind.{comma, doubleQuote, singleQuote}
@@ -58,19 +58,19 @@ rejoin-while n s some = go (decLt n (stretches s))
 -- ---- the two kinds of quote
 
 -- the other kind
-abbrev pub twin : Quote → Quote
-twin double = single
-twin single = double
+abbrev pub otherQuote : Quote → Quote
+otherQuote double = single
+otherQuote single = double
 
-pub same-or-twin : (q r : Quote) → (r ≡ q) ⊎ (r ≡ twin q)
-same-or-twin double double = inl refl
-same-or-twin double single = inr refl
-same-or-twin single double = inr refl
-same-or-twin single single = inl refl
+pub same-or-other : (q r : Quote) → (r ≡ q) ⊎ (r ≡ otherQuote q)
+same-or-other double double = inl refl
+same-or-other double single = inr refl
+same-or-other single double = inr refl
+same-or-other single single = inl refl
 
-pub twin-apart : (q : Quote) → quoteKind (twin q) ≡ quoteKind q → ⊥
-twin-apart double e = omega arith
-twin-apart single e = omega arith
+pub quotes-apart : (q : Quote) → quoteKind (otherQuote q) ≡ quoteKind q → ⊥
+quotes-apart double e = omega arith
+quotes-apart single e = omega arith
 
 pub comma-apart : (q : Quote) → comma ≡ quoteKind q → ⊥
 comma-apart double e = omega arith
@@ -80,9 +80,9 @@ put-same : (q : Quote) (n : ℕ) (f : Quote → ℕ) → put q n f q ≡ n
 put-same double n f = refl
 put-same single n f = refl
 
-put-twin : (q : Quote) (n : ℕ) (f : Quote → ℕ) → put (twin q) n f q ≡ f q
-put-twin double n f = refl
-put-twin single n f = refl
+put-other : (q : Quote) (n : ℕ) (f : Quote → ℕ) → put (otherQuote q) n f q ≡ f q
+put-other double n f = refl
+put-other single n f = refl
 
 -- ---- a token is a comma, a quote or neither
 
@@ -176,23 +176,23 @@ module _ (kinds : List ℕ) where
   own-same q i zero e f = opened e (before-one q i e) f (ap (λ (s : State). s .noted q) (after-quote i q zero e f) ∙ put-same q _ _)
   own-same q i (suc d) e f = closed d e (before-one q i e) f (ap (λ (s : State). s .noted q) (after-quote i q (suc d) e f) ∙ put-same q _ _)
 
-  own-twin : (q : Quote) (i n : ℕ) → kindAt kinds i ≡ quoteKind (twin q) → after kinds i .noted (twin q) ≡ n → Own q i
+  own-other : (q : Quote) (i n : ℕ) → kindAt kinds i ≡ quoteKind (otherQuote q) → after kinds i .noted (otherQuote q) ≡ n → Own q i
   unfolding atQuote note
-  own-twin q i zero e f =
-      quiet (before-none q i (λ g. twin-apart q (sym e ∙ g))) (ap (λ (s : State). s .noted q) (after-quote i (twin q) zero e f) ∙ put-twin q _ _)
-  own-twin q i (suc d) e f =
-      quiet (before-none q i (λ g. twin-apart q (sym e ∙ g)))
-      (ap (λ (s : State). s .noted q) (after-quote i (twin q) (suc d) e f) ∙ put-twin q _ _ ∙ ap (λ (g : Quote → ℕ). g q) (rejoined-noted (suc d) (after kinds i)))
+  own-other q i zero e f =
+      quiet (before-none q i (λ g. quotes-apart q (sym e ∙ g))) (ap (λ (s : State). s .noted q) (after-quote i (otherQuote q) zero e f) ∙ put-other q _ _)
+  own-other q i (suc d) e f =
+      quiet (before-none q i (λ g. quotes-apart q (sym e ∙ g)))
+      (ap (λ (s : State). s .noted q) (after-quote i (otherQuote q) (suc d) e f) ∙ put-other q _ _ ∙ ap (λ (g : Quote → ℕ). g q) (rejoined-noted (suc d) (after kinds i)))
 
   own-by : (q : Quote) (i : ℕ) → Seen (kindAt kinds i) → Own q i
   unfolding atComma
   own-by q i (is-comma e) = quiet (before-none q i (λ g. comma-apart q (sym e ∙ g))) (ap (λ (s : State). s .noted q) (after-comma i e))
   own-by q i (is-other h f) = quiet (before-none q i (f q)) (ap (λ (s : State). s .noted q) (after-other i h f))
-  own-by q i (is-quote r e) = go (same-or-twin q r)
+  own-by q i (is-quote r e) = go (same-or-other q r)
     where
-      go : (r ≡ q) ⊎ (r ≡ twin q) → Own q i
+      go : (r ≡ q) ⊎ (r ≡ otherQuote q) → Own q i
       go (inl f) = own-same q i (after kinds i .noted q) (e ∙ ap quoteKind f) refl
-      go (inr f) = own-twin q i (after kinds i .noted (twin q)) (e ∙ ap quoteKind f) refl
+      go (inr f) = own-other q i (after kinds i .noted (otherQuote q)) (e ∙ ap quoteKind f) refl
 
   own : (q : Quote) (i : ℕ) → Own q i
   own q i = own-by q i (seen (kindAt kinds i))

@@ -53,7 +53,7 @@ pub struct Worker<'l> {
     library: &'l Library,
     pub tally: Tally,
     pub class: &'static str,
-    rows: Vec<Row>,
+    pub rows: Vec<Row>,
     buffer: Vec<u32>,
 }
 
@@ -73,7 +73,7 @@ impl<'l> Worker<'l> {
     }
 
     /// What document 01 asks of a list's entry; the rows are left in `self.rows`.
-    fn expected(&mut self, entry: Entry, line: Lent<'_>, rust_text: &[u8], numbers: usize) -> List {
+    pub fn expected(&mut self, entry: Entry, line: Lent<'_>, rust_text: &[u8], numbers: usize) -> List {
         self.rows.clear();
         let refused = |refusal| List { refusal, rows: 0, consumed: 0 };
         let early = match model::line_refusal(line.kinds, line.text, line.pairs) {

@@ -72,7 +72,22 @@ impl Library {
         }
     }
 
-    /// The names that the harness knows how to compare.
+    /// A library of nothing.
+    pub fn none() -> Self {
+        Library { lists: [None; 4], is_block_attr_list: None, from_meta: None, from_meta_sheet: None }
+    }
+
+    /// The functions that `exports.txt` lists.
+    pub fn listed() -> Vec<&'static str> {
+        include_str!("../exports.txt")
+            .lines()
+            .map(|line| line.split('#').next().unwrap_or("").trim())
+            .filter(|name| !name.is_empty())
+            .collect()
+    }
+
+    /// The names that the harness knows how to compare; the number of each in a recorded call
+    /// is its place here, counted from 1.
     pub const KNOWN: [&'static str; 7] = [
         "telfjost_block_attr_list",
         "telfjost_block_macro_attr_list",

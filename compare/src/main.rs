@@ -10,6 +10,7 @@ mod check;
 mod library;
 mod lines;
 mod model;
+mod record;
 mod rng;
 mod rust_side;
 mod self_test;
@@ -161,6 +162,7 @@ fn usage() -> ExitCode {
     eprintln!(
         "usage: compare                            the self-test, then the comparison at the gate's size
        compare --self-test                the Rust side alone
+       compare --record                   makes the recorded answers anew
        compare --minutes N [--seed S]     the comparison, longer, then fresh random cases until N minutes are over
        compare --line ENTRY TEXT          what the Rust gives for a line (block, macro, inline, link)"
     );
@@ -173,11 +175,13 @@ fn main() -> ExitCode {
     let mut minutes: Option<u64> = None;
     let mut seed: Option<u64> = None;
     let mut self_test_only = false;
+    let mut record = false;
     let mut at = 0;
     while at < args.len() {
         let value = args.get(at + 1);
         match (args[at].as_str(), value) {
             ("--self-test", _) => self_test_only = true,
+            ("--record", _) => record = true,
             ("--minutes", Some(n)) => {
                 minutes = n.parse().ok();
                 at += 1;
@@ -191,6 +195,20 @@ fn main() -> ExitCode {
         }
         at += 1;
     }
+    for name in Library::listed() {
+        if !Library::KNOWN.contains(&name) {
+            println!("{name} is listed, but the harness does not know how to compare it");
+            return ExitCode::FAILURE;
+        }
+    }
+    if record {
+        let made = record::recorded(&Library::listed());
+        if let Err(e) = std::fs::write(record::STDIN, made.calls).and_then(|()| std::fs::write(record::STDOUT, made.answers)) {
+            println!("cannot write the recorded answers: {e}");
+            return ExitCode::FAILURE;
+        }
+        return ExitCode::SUCCESS;
+    }
     if !self_test::run() {
         return ExitCode::FAILURE;
     }
@@ -198,13 +216,6 @@ fn main() -> ExitCode {
         return ExitCode::SUCCESS;
     }
     let library = Library::linked();
-    let listed = include_str!("../exports.txt").lines().map(|line| line.split('#').next().unwrap_or("").trim());
-    for name in listed.filter(|name| !name.is_empty()) {
-        if !Library::KNOWN.contains(&name) {
-            println!("{name} is listed, but the harness does not know how to compare it");
-            return ExitCode::FAILURE;
-        }
-    }
     if library.exports() == 0 {
         println!("no export is listed yet: nothing to compare");
         return ExitCode::SUCCESS;

@@ -4,8 +4,10 @@
 
 use crate::check::expected_set;
 use crate::deq::Deq;
+use crate::library::Library;
 use crate::lines::{LineBuf, TELLING};
 use crate::model::{self, Mode, line_refusal, room_refusal};
+use crate::record;
 use crate::rust_side::{self, ENTRIES, Entry, KINDS, MOVES, NO_SUBS, NORMAL, Outcome, Set};
 use crate::stand_in::{Bump, BumpString, Row, SourceLocation};
 use crate::token::{Token, TokenIs, TokenKind};
@@ -56,8 +58,17 @@ pub fn run() -> bool {
     sets(&mut t);
     refusals(&mut t);
     short_lines(&mut t);
+    recorded_answers(&mut t);
     println!("self-test of the Rust side: {} checks, {} failed", t.run, t.failed);
     t.failed == 0
+}
+
+/// The files of the program `replay` are those that `record` makes.
+fn recorded_answers(t: &mut Tests) {
+    let made = record::recorded(&Library::listed());
+    let same = |path, text: &str| std::fs::read(path).is_ok_and(|bytes| bytes == text.as_bytes());
+    t.holds("the recorded calls are current (compare/record makes them)", same(record::STDIN, &made.calls));
+    t.holds("the recorded answers are current (compare/record makes them)", same(record::STDOUT, &made.answers));
 }
 
 /// The steps of `trim`, on a real `Deq`.

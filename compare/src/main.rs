@@ -55,7 +55,6 @@ mod variants {
 
 pub use stand_in::CellContentStyle;
 
-use std::collections::BTreeMap;
 use std::process::ExitCode;
 use std::sync::Mutex;
 use std::sync::atomic::{AtomicUsize, Ordering};
@@ -122,13 +121,28 @@ fn report(tally: &Tally, seconds: f64) {
             counts.iter().enumerate().filter(|(_, n)| **n > 0).map(|(i, n)| format!("{i}: {}", grouped(*n))).collect();
         shown.join(", ")
     };
-    println!("answers by refusal (0 is none)  {}", numbered(&tally.refusals));
-    println!("rows by tag                     {}", numbered(&tally.tags));
-    println!("diagnostics by number           {}", numbered(&tally.diagnostics));
-    println!("yes of is_block_attr_list       {}", grouped(tally.yes));
-    println!("link text closed by another token (the Rust takes it, 8 is due): {}", grouped(tally.other_closing));
-    let panics: BTreeMap<_, _> = tally.panics.iter().collect();
-    println!("panics of the Rust (8 is due), by where they arose: {panics:?}");
+    let by_number = [
+        ("answers by refusal (0 is none)", &tally.refusals[..]),
+        ("rows by tag", &tally.tags[..]),
+        ("diagnostics by number", &tally.diagnostics[..]),
+    ];
+    for (what, counts) in by_number {
+        if counts.iter().any(|n| *n > 0) {
+            println!("{what}: {}", numbered(counts));
+        }
+    }
+    let counted = [
+        ("is_block_attr_list said yes", tally.yes),
+        ("link text closed by another token, which the Rust takes and 8 is due", tally.other_closing),
+    ];
+    for (what, count) in counted {
+        if count > 0 {
+            println!("{what}: {}", grouped(count));
+        }
+    }
+    for (at, count) in &tally.panics {
+        println!("panics of the Rust at {at}, where 8 is due: {}", grouped(*count));
+    }
 }
 
 /// A comparison that never met an answer of some kind would say little.

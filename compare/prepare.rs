@@ -20,7 +20,12 @@ const EDITS: [(&str, &str, &str, &str); 3] = [
         "  #[allow(dead_code)]\n  fn parse_attr_nodes_of_the_source(",
         "the recorder takes the name",
     ),
-    ("substitutions.rs", "\n  order: [Option<Subs>; 7],\n", "\n  pub order: [Option<Subs>; 7],\n", "to give and read a set"),
+    (
+        "substitutions.rs",
+        "\n  order: [Option<Subs>; 7],\n",
+        "\n  pub order: [Option<Subs>; 7],\n",
+        "to give and read a set",
+    ),
     ("substitutions.rs", "\n  flags: u8,\n", "\n  pub flags: u8,\n", "to give and read a set"),
 ];
 

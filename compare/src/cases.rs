@@ -47,9 +47,7 @@ const CLOSE: Tok = (CloseBracket, "]");
 const BACK: Tok = (Backslash, "\\");
 
 /// Calls `f` with every line of `len` tokens of the alphabet that begins with `first`.
-fn each_line(
-    every: &Every, first: usize, len: usize, f: &mut dyn FnMut(&LineBuf) -> Checked,
-) -> Checked {
+fn each_line(every: &Every, first: usize, len: usize, f: &mut dyn FnMut(&LineBuf) -> Checked) -> Checked {
     let mut digits = vec![0; len];
     digits[0] = first;
     let mut line = LineBuf::default();
@@ -113,65 +111,107 @@ fn exhaustive_lists(more: usize) -> Vec<Piece> {
     let sets = [
         Every {
             class: "every line, telling tokens, any end",
-            alphabet: TELLING.to_vec(), before: vec![], after: vec![], longest: 3, entries: &ENTRIES,
+            alphabet: TELLING.to_vec(),
+            before: vec![],
+            after: vec![],
+            longest: 3,
+            entries: &ENTRIES,
         },
         Every {
             class: "every line, telling tokens, closed",
-            alphabet: TELLING[..27].to_vec(), before: vec![], after: close(), longest: 4, entries: &ENTRIES,
+            alphabet: TELLING[..27].to_vec(),
+            before: vec![],
+            after: close(),
+            longest: 4,
+            entries: &ENTRIES,
         },
         Every {
             class: "every line, 14 tokens, closed",
-            alphabet: mid, before: vec![], after: close(), longest: 5 + more, entries: &ENTRIES,
+            alphabet: mid,
+            before: vec![],
+            after: close(),
+            longest: 5 + more,
+            entries: &ENTRIES,
         },
         Every {
             class: "every line, commas and quotes",
-            alphabet: vec![A, COMMA, DOUBLE, SINGLE], before: vec![], after: close(),
-            longest: 9 + more, entries: BOTH_ENDS,
+            alphabet: vec![A, COMMA, DOUBLE, SINGLE],
+            before: vec![],
+            after: close(),
+            longest: 9 + more,
+            entries: BOTH_ENDS,
         },
         Every {
             class: "every line, commas, quotes, brackets",
-            alphabet: vec![A, COMMA, DOUBLE, SINGLE, CLOSE, BACK], before: vec![], after: close(),
-            longest: 6 + more, entries: &ENTRIES,
+            alphabet: vec![A, COMMA, DOUBLE, SINGLE, CLOSE, BACK],
+            before: vec![],
+            after: close(),
+            longest: 6 + more,
+            entries: &ENTRIES,
         },
         Every {
             class: "every line, names and values",
-            alphabet: vec![A, REF, SPACE, EQUAL, EQUALS, DOUBLE, (Word, "")], before: vec![], after: close(),
-            longest: 6 + more, entries: BOTH_ENDS,
+            alphabet: vec![A, REF, SPACE, EQUAL, EQUALS, DOUBLE, (Word, "")],
+            before: vec![],
+            after: close(),
+            longest: 6 + more,
+            entries: BOTH_ENDS,
         },
         Every {
             class: "every line, shorthand",
-            alphabet: vec![A, SPACE, DOT, DOTS, HASH, PERCENT, (Hash, "##")], before: vec![], after: close(),
-            longest: 6 + more, entries: &[Entry::Block, Entry::BlockMacro],
+            alphabet: vec![A, SPACE, DOT, DOTS, HASH, PERCENT, (Hash, "##")],
+            before: vec![],
+            after: close(),
+            longest: 6 + more,
+            entries: &[Entry::Block, Entry::BlockMacro],
         },
         Every {
             class: "every line, ids",
-            alphabet: vec![(Word, "id"), EQUAL, HASH, DOUBLE, COMMA, REF, A], before: vec![], after: close(),
-            longest: 6 + more, entries: BOTH_ENDS,
+            alphabet: vec![(Word, "id"), EQUAL, HASH, DOUBLE, COMMA, REF, A],
+            before: vec![],
+            after: close(),
+            longest: 6 + more,
+            entries: BOTH_ENDS,
         },
         Every {
             class: "every line, groups of options",
             alphabet: vec![A, SPACE, COMMA, DOUBLE, SINGLE, REF, (Word, "")],
-            before: vec![(Word, "opts"), EQUAL], after: close(), longest: 6 + more, entries: &[Entry::Block],
+            before: vec![(Word, "opts"), EQUAL],
+            after: close(),
+            longest: 6 + more,
+            entries: &[Entry::Block],
         },
         Every {
             class: "every line, groups of roles",
             alphabet: vec![A, SPACE, COMMA, DOUBLE, SINGLE, REF, (Word, "")],
-            before: vec![(Word, "role"), EQUAL], after: close(), longest: 6 + more, entries: &[Entry::Block],
+            before: vec![(Word, "role"), EQUAL],
+            after: close(),
+            longest: 6 + more,
+            entries: &[Entry::Block],
         },
         Every {
             class: "every line, halves of names",
-            alphabet: [&HALVES[..], &[REF, SPACE, EQUAL]].concat(), before: vec![], after: vec![EQUAL, A, CLOSE],
-            longest: 4 + more, entries: BOTH_ENDS,
+            alphabet: [&HALVES[..], &[REF, SPACE, EQUAL]].concat(),
+            before: vec![],
+            after: vec![EQUAL, A, CLOSE],
+            longest: 4 + more,
+            entries: BOTH_ENDS,
         },
         Every {
             class: "every line, links",
-            alphabet: vec![A, DOUBLE, SINGLE, EQUAL, OPEN, CLOSE, BACK, REF, COMMA], before: vec![], after: close(),
-            longest: 5 + more, entries: &[Entry::Link],
+            alphabet: vec![A, DOUBLE, SINGLE, EQUAL, OPEN, CLOSE, BACK, REF, COMMA],
+            before: vec![],
+            after: close(),
+            longest: 5 + more,
+            entries: &[Entry::Link],
         },
         Every {
             class: "every line, links, any end",
-            alphabet: vec![A, DOUBLE, EQUAL, OPEN, CLOSE, BACK, REF], before: vec![], after: vec![],
-            longest: 6 + more, entries: &[Entry::Link, Entry::Inline],
+            alphabet: vec![A, DOUBLE, EQUAL, OPEN, CLOSE, BACK, REF],
+            before: vec![],
+            after: vec![],
+            longest: 6 + more,
+            entries: &[Entry::Link, Entry::Inline],
         },
     ];
     sets.into_iter().flat_map(every_line).collect()
@@ -231,8 +271,20 @@ fn random_lists(seed: u64, share: usize) -> Vec<Piece> {
 /// Lines at the limits: 4,096 tokens of one kind or of hard mixes, 65,535 bytes.
 fn limits() -> Vec<Piece> {
     let mixes: [&'static [Tok]; 14] = [
-        &[A], &[COMMA], &[DOUBLE], &[DOUBLE, COMMA], &[DOUBLE, COMMA, SINGLE, COMMA], &[DOUBLE, COMMA, COMMA, SINGLE],
-        &[DOT, A], &[DOT], &[SPACE], &[REF], &[A, EQUAL], &[A, COMMA], &[OPEN, BACK, CLOSE], &[(Word, "")],
+        &[A],
+        &[COMMA],
+        &[DOUBLE],
+        &[DOUBLE, COMMA],
+        &[DOUBLE, COMMA, SINGLE, COMMA],
+        &[DOUBLE, COMMA, COMMA, SINGLE],
+        &[DOT, A],
+        &[DOT],
+        &[SPACE],
+        &[REF],
+        &[A, EQUAL],
+        &[A, COMMA],
+        &[OPEN, BACK, CLOSE],
+        &[(Word, "")],
     ];
     mixes
         .into_iter()
@@ -322,7 +374,9 @@ fn damage(line: &mut LineBuf, rng: &mut Rng, fault: usize, numbers: &mut Option<
             let short = ROW * tokens;
             *numbers = Some(if rng.one_in(2) { short - 1 } else { rng.below(short) });
         }
-        8 if tokens > 0 => line.kinds[tokens - 1] = *rng.pick(&[Word as u8, Comma as u8, OpenBracket as u8, Backslash as u8]),
+        8 if tokens > 0 => {
+            line.kinds[tokens - 1] = *rng.pick(&[Word as u8, Comma as u8, OpenBracket as u8, Backslash as u8])
+        }
         _ => {}
     }
 }
@@ -348,7 +402,8 @@ fn damaged(seed: u64, share: usize) -> Vec<Piece> {
                     }
                     let numbers = numbers.unwrap_or(ROW * line.kinds.len() + rng.below(3));
                     // Damage may put a lexeme into a gap or inside a character.
-                    let for_rust: Vec<u8> = line.text.iter().map(|b| if b.is_ascii() { *b } else { b'Z' }).collect();
+                    let for_rust: Vec<u8> =
+                        line.text.iter().map(|b| if b.is_ascii() { *b } else { b'Z' }).collect();
                     for entry in ENTRIES {
                         worker.list_for(entry, line.lent(), &for_rust, numbers, turn)?;
                     }
@@ -366,7 +421,18 @@ fn damaged(seed: u64, share: usize) -> Vec<Piece> {
 fn block_tests(seed: u64, share: usize) -> Vec<Piece> {
     let every = std::sync::Arc::new(Every {
         class: "is_block_attr_list, every line",
-        alphabet: vec![OPEN, CLOSE, BACK, A, REF, SPACE, COMMA, (Word, ""), (OpenBracket, ""), (CloseBracket, "")],
+        alphabet: vec![
+            OPEN,
+            CLOSE,
+            BACK,
+            A,
+            REF,
+            SPACE,
+            COMMA,
+            (Word, ""),
+            (OpenBracket, ""),
+            (CloseBracket, ""),
+        ],
         before: vec![],
         after: vec![],
         longest: 5,
@@ -412,17 +478,50 @@ const MODES: [Mode; 2] = [Mode::Port, Mode::Sheet];
 fn parts() -> Vec<Vec<u8>> {
     let mut names: Vec<String> = SUBS_NAMES.iter().map(|n| n.to_string()).collect();
     names.extend(["none", "normal", "verbatim"].map(String::from));
-    let unknown = ["", "q", "abc", "abcd", "quote", "quotess", "Quotes", "QUOTES", "speci", "callout", "post", "non", "nonee", "a+b", "quo tes", "qu\u{f6}tes"];
+    let unknown = [
+        "",
+        "q",
+        "abc",
+        "abcd",
+        "quote",
+        "quotess",
+        "Quotes",
+        "QUOTES",
+        "speci",
+        "callout",
+        "post",
+        "non",
+        "nonee",
+        "a+b",
+        "quo tes",
+        "qu\u{f6}tes",
+    ];
     names.extend(unknown.map(String::from));
     let mut parts = Vec::new();
     for name in names {
         let modified = [
-            name.clone(), format!("+{name}"), format!("{name}+"), format!("-{name}"), format!("{name}-"),
-            format!("+{name}+"), format!("-{name}+"), format!("--{name}"), format!("++{name}"), format!("{name}++"),
-            format!("+-{name}"), format!("- {name}"), format!("{name} +"),
+            name.clone(),
+            format!("+{name}"),
+            format!("{name}+"),
+            format!("-{name}"),
+            format!("{name}-"),
+            format!("+{name}+"),
+            format!("-{name}+"),
+            format!("--{name}"),
+            format!("++{name}"),
+            format!("{name}++"),
+            format!("+-{name}"),
+            format!("- {name}"),
+            format!("{name} +"),
         ];
         for part in modified {
-            for spaced in [part.clone(), format!(" {part}"), format!("{part} "), format!("  {part}  "), format!("\t{part}")] {
+            for spaced in [
+                part.clone(),
+                format!(" {part}"),
+                format!("{part} "),
+                format!("  {part}  "),
+                format!("\t{part}"),
+            ] {
                 parts.push(spaced.into_bytes());
             }
         }
@@ -577,6 +676,8 @@ pub fn fresh(seed: u64) -> Vec<Piece> {
     let mut pieces = random_lists(seed, 4);
     pieces.extend(damaged(seed, 4));
     pieces.extend(block_tests(seed, 1).into_iter().filter(|p| p.class.ends_with("random lines")));
-    pieces.extend(sets(seed, 2).into_iter().filter(|p| p.class.starts_with("random") || p.class.starts_with("long")));
+    pieces.extend(
+        sets(seed, 2).into_iter().filter(|p| p.class.starts_with("random") || p.class.starts_with("long")),
+    );
     pieces
 }

@@ -104,7 +104,12 @@ impl<'l> Worker<'l> {
 
     /// The same, where the Rust is given another text of the same lengths.
     pub fn list_for(
-        &mut self, entry: Entry, line: Lent<'_>, rust_text: &[u8], numbers: usize, salt: u32,
+        &mut self,
+        entry: Entry,
+        line: Lent<'_>,
+        rust_text: &[u8],
+        numbers: usize,
+        salt: u32,
     ) -> Checked {
         if !self.library.has_list(entry) {
             return Ok(());
@@ -112,7 +117,9 @@ impl<'l> Worker<'l> {
         let expected = self.expected(entry, line, rust_text, numbers);
         self.buffer.clear();
         self.buffer.extend((0..numbers + 2 * GUARD).map(|at| canary(salt, at)));
-        let Some(given) = self.library.list(entry, line, &mut self.buffer[GUARD..GUARD + numbers], salt % 2 == 0) else {
+        let Some(given) =
+            self.library.list(entry, line, &mut self.buffer[GUARD..GUARD + numbers], salt % 2 == 0)
+        else {
             return Ok(());
         };
         self.count(expected.refusal);
@@ -135,7 +142,10 @@ impl<'l> Worker<'l> {
         let mut words = describe_line(&format!("{entry:?}"), line);
         let _ = writeln!(words, "row buffer: {numbers} numbers, {} would do", ROW * line.kinds.len());
         let _ = writeln!(words, "due:   {expected:?}, rows {:?}", self.rows);
-        let _ = writeln!(words, "given: {given:?}, numbers changed (place, number), counted from the buffer's start:");
+        let _ = writeln!(
+            words,
+            "given: {given:?}, numbers changed (place, number), counted from the buffer's start:"
+        );
         for (at, number) in wrote.iter().take(200) {
             let _ = write!(words, " ({}, {number})", *at as i64 - GUARD as i64);
         }
@@ -157,7 +167,9 @@ impl<'l> Worker<'l> {
     }
 
     pub fn is_block_attr_list(&mut self, line: Lent<'_>) -> Checked {
-        let Some(given) = self.library.is_block_attr_list(line, line.kinds.len() % 2 == 0) else { return Ok(()) };
+        let Some(given) = self.library.is_block_attr_list(line, line.kinds.len() % 2 == 0) else {
+            return Ok(());
+        };
         let refusal = model::line_refusal(line.kinds, line.text, line.pairs);
         let yes = refusal == 0 && rust_side::is_block_attr_list(line);
         let expected = Bool { refusal, yes: usize::from(yes) };
@@ -232,7 +244,9 @@ pub fn expected_set(mode: Mode, set: Set, text: Option<&[u8]>) -> SetAnswer {
 fn describe_set(mode: Mode, set: Set, text: Option<&[u8]>, due: SetAnswer, given: SetAnswer) -> String {
     let text = match text {
         None => "no subs attribute".to_string(),
-        Some(t) if t.len() > 400 => format!("{} bytes, beginning {:?}", t.len(), String::from_utf8_lossy(&t[..400])),
+        Some(t) if t.len() > 400 => {
+            format!("{} bytes, beginning {:?}", t.len(), String::from_utf8_lossy(&t[..400]))
+        }
         Some(t) => format!("{} bytes {:?}", t.len(), String::from_utf8_lossy(t)),
     };
     format!("from_meta, {mode:?} mode\nset:   {set:?}\ntext:  {text}\ndue:   {due:?}\ngiven: {given:?}\n")
@@ -241,13 +255,17 @@ fn describe_set(mode: Mode, set: Set, text: Option<&[u8]>, due: SetAnswer, given
 fn describe_line(entry: &str, line: Lent<'_>) -> String {
     let mut words = format!(
         "{entry}: {} tokens, {} bytes of text, {} numbers of pairs\n",
-        line.kinds.len(), line.text.len(), line.pairs.len()
+        line.kinds.len(),
+        line.text.len(),
+        line.pairs.len()
     );
     for (place, kind) in line.kinds.iter().enumerate() {
         let name = KINDS.get(*kind as usize).map_or("no kind".to_string(), |k| format!("{k:?}"));
         let pair = line.pairs.get(2 * place..2 * place + 2);
         let text = pair.and_then(|p| line.text.get(p[0] as usize..p[0] as usize + p[1] as usize));
-        let shown = text.map_or("no text".to_string(), |t| format!("{:?}", String::from_utf8_lossy(&t[..t.len().min(60)])));
+        let shown = text.map_or("no text".to_string(), |t| {
+            format!("{:?}", String::from_utf8_lossy(&t[..t.len().min(60)]))
+        });
         let _ = writeln!(words, "  {place:4} {kind:3} {name:14} {shown} at {pair:?}");
     }
     words

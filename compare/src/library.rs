@@ -25,9 +25,8 @@ pub struct SetAnswer {
     pub set: Set,
 }
 
-type ListFn = unsafe extern "C" fn(
-    *const u8, usize, *const u8, usize, *const u32, usize, *mut u32, usize,
-) -> List;
+type ListFn =
+    unsafe extern "C" fn(*const u8, usize, *const u8, usize, *const u32, usize, *mut u32, usize) -> List;
 type BoolFn = unsafe extern "C" fn(*const u8, usize, *const u8, usize, *const u32, usize) -> Bool;
 type SubsFn = unsafe extern "C" fn(Set, bool, *const u8, usize) -> SetAnswer;
 
@@ -125,8 +124,14 @@ impl Library {
         // SAFETY: each pointer is that of a slice of the length given, or NULL with length 0.
         Some(unsafe {
             f(
-                at(kinds, null), kinds.len(), at(text, null), text.len(), at(pairs, null), pairs.len(),
-                rows_at, rows.len(),
+                at(kinds, null),
+                kinds.len(),
+                at(text, null),
+                text.len(),
+                at(pairs, null),
+                pairs.len(),
+                rows_at,
+                rows.len(),
             )
         })
     }

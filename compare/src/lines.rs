@@ -51,9 +51,7 @@ impl LineBuf {
         let mut line = LineBuf::default();
         let mut rest = text;
         while let Some(first) = rest.chars().next() {
-            let run = |same: &dyn Fn(char) -> bool| {
-                rest.find(|c: char| !same(c)).unwrap_or(rest.len())
-            };
+            let run = |same: &dyn Fn(char) -> bool| rest.find(|c: char| !same(c)).unwrap_or(rest.len());
             let mark = match first {
                 ']' => Some(CloseBracket),
                 '[' => Some(OpenBracket),
@@ -161,8 +159,30 @@ pub const HALVES: [Tok; 12] = [
 ];
 
 const TEXTS: [&str; 24] = [
-    "", "a", "=", "==", ".", "..", "...", "#", "##", "%", "id", "role", "opts", "options", "subs", "cols", " ",
-    "\u{e9}", "\u{65e5}\u{672c}", "{x}", "]", ",", "\"", "'",
+    "",
+    "a",
+    "=",
+    "==",
+    ".",
+    "..",
+    "...",
+    "#",
+    "##",
+    "%",
+    "id",
+    "role",
+    "opts",
+    "options",
+    "subs",
+    "cols",
+    " ",
+    "\u{e9}",
+    "\u{65e5}\u{672c}",
+    "{x}",
+    "]",
+    ",",
+    "\"",
+    "'",
 ];
 
 /// Bytes that stand between lexemes; no token has them, so they need not be UTF-8.
@@ -187,11 +207,8 @@ pub fn random_line(line: &mut LineBuf, rng: &mut Rng, len: usize) {
         if gaps && rng.one_in(4) {
             gap(line, rng);
         }
-        let mut token = if rng.one_in(20) {
-            TELLING[rng.below(TELLING.len())]
-        } else {
-            palette[rng.below(colours)]
-        };
+        let mut token =
+            if rng.one_in(20) { TELLING[rng.below(TELLING.len())] } else { palette[rng.below(colours)] };
         if token.0 == CloseBracket && !brackets && place > 0 {
             token = TELLING[0];
         }

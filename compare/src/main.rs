@@ -77,7 +77,10 @@ fn run(library: &Library, pieces: &[Piece], until: Option<Instant>, tally: &Mute
                 let mut worker = Worker::new(library);
                 loop {
                     let at = next.fetch_add(1, Ordering::Relaxed);
-                    if at >= pieces.len() || at > first.lock().unwrap().0 || until.is_some_and(|t| Instant::now() > t) {
+                    if at >= pieces.len()
+                        || at > first.lock().unwrap().0
+                        || until.is_some_and(|t| Instant::now() > t)
+                    {
                         break;
                     }
                     worker.class = pieces[at].class;
@@ -117,8 +120,12 @@ fn report(tally: &Tally, seconds: f64) {
     }
     println!("  {:>12}  in all, {seconds:.0} s", grouped(total));
     let numbered = |counts: &[u64]| {
-        let shown: Vec<String> =
-            counts.iter().enumerate().filter(|(_, n)| **n > 0).map(|(i, n)| format!("{i}: {}", grouped(*n))).collect();
+        let shown: Vec<String> = counts
+            .iter()
+            .enumerate()
+            .filter(|(_, n)| **n > 0)
+            .map(|(i, n)| format!("{i}: {}", grouped(*n)))
+            .collect();
         shown.join(", ")
     };
     let by_number = [
@@ -217,7 +224,9 @@ fn main() -> ExitCode {
     }
     if record {
         let made = record::recorded(&Library::listed());
-        if let Err(e) = std::fs::write(record::STDIN, made.calls).and_then(|()| std::fs::write(record::STDOUT, made.answers)) {
+        if let Err(e) = std::fs::write(record::STDIN, made.calls)
+            .and_then(|()| std::fs::write(record::STDOUT, made.answers))
+        {
             println!("cannot write the recorded answers: {e}");
             return ExitCode::FAILURE;
         }

@@ -86,11 +86,58 @@ impl Recorded {
 
 /// Lines that the documents speak of.
 const LINES: [&str; 52] = [
-    "]", "]a", "a]", "a,b]", "a,]", ",]", "k=\"a,b\",c]", "\",'\",']", "\",\",]", "a==b=c]", ".x#y%]", "#%o]", "a...b.c]",
-    "a\\]b]c", "id=\"\"]", "id=a,#b]", "#a,id=b]", "subs=a,cols=b]", "role=a b]", "role=\"a  b\"]", "opts=\"a,b\"]",
-    "options=a]", "options=\" ,a, \"]", "a.b]", "a .b]", "a. b]", ".]", "...]", "a ]", " ]", " , ]", "{x}]", "a{x}b]",
-    "{x} a = {x} b {x}]", "k = v]", "k= v]", "k =v]", "k  v=]", "=a]", "\"a\"]", "'a']", "\"a']", "\"a\"b]", "a=\"b\"c]",
-    "#a.b%c]", "##]", "a\\,b]", "a[b]c]", "a[b=c]d]", "\"a]b\"]", "a\"b=c\"d]", "quote,Mr X,Letters]",
+    "]",
+    "]a",
+    "a]",
+    "a,b]",
+    "a,]",
+    ",]",
+    "k=\"a,b\",c]",
+    "\",'\",']",
+    "\",\",]",
+    "a==b=c]",
+    ".x#y%]",
+    "#%o]",
+    "a...b.c]",
+    "a\\]b]c",
+    "id=\"\"]",
+    "id=a,#b]",
+    "#a,id=b]",
+    "subs=a,cols=b]",
+    "role=a b]",
+    "role=\"a  b\"]",
+    "opts=\"a,b\"]",
+    "options=a]",
+    "options=\" ,a, \"]",
+    "a.b]",
+    "a .b]",
+    "a. b]",
+    ".]",
+    "...]",
+    "a ]",
+    " ]",
+    " , ]",
+    "{x}]",
+    "a{x}b]",
+    "{x} a = {x} b {x}]",
+    "k = v]",
+    "k= v]",
+    "k =v]",
+    "k  v=]",
+    "=a]",
+    "\"a\"]",
+    "'a']",
+    "\"a']",
+    "\"a\"b]",
+    "a=\"b\"c]",
+    "#a.b%c]",
+    "##]",
+    "a\\,b]",
+    "a[b]c]",
+    "a[b=c]d]",
+    "\"a]b\"]",
+    "a\"b=c\"d]",
+    "quote,Mr X,Letters]",
 ];
 
 /// The lines that are recorded: those of the documents, random ones, damaged ones, long ones.
@@ -168,11 +215,46 @@ fn lines(rng: &mut Rng, how_many: usize, bracketed: bool) -> Vec<(LineBuf, Vec<u
 }
 
 const TEXTS: [&str; 40] = [
-    "", "none", "normal", "verbatim", "quotes", "+callouts", "callouts+", "-callouts", "quotes, macros", "quotes,macros",
-    " quotes ", "+ quotes", "-normal", "+normal", "normal+", "verbatim+", "-verbatim", "+verbatim", "none+", "-none",
-    "specialchars,attributes", "-specialchars,+specialchars", "quotes+,macros+,callouts+", "post_replacements",
-    "post_replacements+,-quotes", "abc", "abcd", "+abc", "quote", "Quotes", "quotes-", "--quotes", "++quotes", "quotes++",
-    "+quotes+", "-quotes+", ",", ",,quotes,,", "   ,    , quotes", "+,-,a+b",
+    "",
+    "none",
+    "normal",
+    "verbatim",
+    "quotes",
+    "+callouts",
+    "callouts+",
+    "-callouts",
+    "quotes, macros",
+    "quotes,macros",
+    " quotes ",
+    "+ quotes",
+    "-normal",
+    "+normal",
+    "normal+",
+    "verbatim+",
+    "-verbatim",
+    "+verbatim",
+    "none+",
+    "-none",
+    "specialchars,attributes",
+    "-specialchars,+specialchars",
+    "quotes+,macros+,callouts+",
+    "post_replacements",
+    "post_replacements+,-quotes",
+    "abc",
+    "abcd",
+    "+abc",
+    "quote",
+    "Quotes",
+    "quotes-",
+    "--quotes",
+    "++quotes",
+    "quotes++",
+    "+quotes+",
+    "-quotes+",
+    ",",
+    ",,quotes,,",
+    "   ,    , quotes",
+    "+,-,a+b",
 ];
 
 /// Everything that is recorded, for the functions that are listed.
@@ -197,7 +279,9 @@ pub fn recorded(listed: &[&str]) -> Recorded {
                 out.subs(mode, held[rng.below(held.len())], Some(text.as_bytes()));
             }
         }
-        for set in [NORMAL, flagged, Set { flags: 255, ..NORMAL }, Set { places: [1, 0, 2, 0, 0, 0, 0], flags: 3 }] {
+        for set in
+            [NORMAL, flagged, Set { flags: 255, ..NORMAL }, Set { places: [1, 0, 2, 0, 0, 0, 0], flags: 3 }]
+        {
             out.subs(mode, set, None);
             for bytes in [0, MOST_BYTES, MOST_BYTES + 1] {
                 out.subs(mode, set, Some(&vec![b'a'; bytes]));

@@ -68,7 +68,10 @@ fn recorded_answers(t: &mut Tests) {
     let made = record::recorded(&Library::listed());
     let same = |path, text: &str| std::fs::read(path).is_ok_and(|bytes| bytes == text.as_bytes());
     t.holds("the recorded calls are current (compare/record makes them)", same(record::STDIN, &made.calls));
-    t.holds("the recorded answers are current (compare/record makes them)", same(record::STDOUT, &made.answers));
+    t.holds(
+        "the recorded answers are current (compare/record makes them)",
+        same(record::STDOUT, &made.answers),
+    );
 }
 
 /// The steps of `trim`, on a real `Deq`.
@@ -129,7 +132,11 @@ fn lines_on_the_bench(t: &mut Tests) {
     t.same("verbatim", subs(Mode::Port, NORMAL, "verbatim"), (0, [1, 4, 0, 0, 0, 0, 0], 9));
     t.same("verbatim, sheet", subs(Mode::Sheet, NORMAL, "verbatim"), (0, [1, 7, 0, 0, 0, 0, 0], 65));
     t.same("quotes, macros", subs(Mode::Port, NORMAL, "quotes, macros"), (0, [2, 0, 0, 0, 0, 0, 0], 2));
-    t.same("quotes, macros, sheet", subs(Mode::Sheet, NORMAL, "quotes, macros"), (0, [2, 5, 0, 0, 0, 0, 0], 18));
+    t.same(
+        "quotes, macros, sheet",
+        subs(Mode::Sheet, NORMAL, "quotes, macros"),
+        (0, [2, 5, 0, 0, 0, 0, 0], 18),
+    );
     t.read(Entry::Inline, "a\\]b]c", &[[2, 0, 4, 0, 0]], 5);
     t.read(block, "id=\"\"]", &[[7, 0, 3, 0, 0]], 5);
     t.same("a] with room for 10", room_refusal(2, 10), 0);
@@ -181,7 +188,9 @@ fn sets(t: &mut Tests) {
     let mut distinct = std::collections::HashSet::new();
     t.holds("none stands twice", sets.iter().all(|set| distinct.insert(*set)));
     let kept = sets.iter().all(|set| {
-        MOVES.iter().all(|step| (1..=7).all(|kind| rust_side::set_move(*set, *step, kind).is_some_and(model::held)))
+        MOVES
+            .iter()
+            .all(|step| (1..=7).all(|kind| rust_side::set_move(*set, *step, kind).is_some_and(model::held)))
     });
     t.holds("the Rust's moves keep a set held", kept);
     for set in [
@@ -193,7 +202,11 @@ fn sets(t: &mut Tests) {
         Set { places: [1, 0, 0, 0, 0, 0, 0], flags: 129 },
     ] {
         t.holds("not held", !model::held(set));
-        t.same("refused and given back", expected_set(Mode::Port, set, None), crate::library::SetAnswer { refusal: 10, set });
+        t.same(
+            "refused and given back",
+            expected_set(Mode::Port, set, None),
+            crate::library::SetAnswer { refusal: 10, set },
+        );
     }
     let flagged = Set { flags: 127, ..NORMAL };
     t.holds("held and not sound", model::held(flagged) && !model::sound(flagged));

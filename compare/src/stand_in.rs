@@ -472,10 +472,7 @@ impl<'b> Parser<'b> {
         self.err_at(message, token.loc)
     }
 
-    pub fn parse_attr_nodes(
-        &mut self,
-        tokens: Deq<'b, Token<'b>>,
-    ) -> Result<Option<InlineNodes<'b>>> {
+    pub fn parse_attr_nodes(&mut self, tokens: Deq<'b, Token<'b>>) -> Result<Option<InlineNodes<'b>>> {
         Ok(Some(self.nodes(run_of(&tokens))))
     }
 

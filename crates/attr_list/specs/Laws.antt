@@ -26,6 +26,7 @@ use Rattle.closing.specs.Closing.{at, lastBracket, nextBracket}
 use Rattle.closing.specs.Laws.{Found, FoundLast, next-found, last-found}
 use Rattle.attribute.specs.Attribute as one
 use Rattle.attribute.specs.Attribute.{attribute}
+use Rattle.attribute.specs.Laws.{rows-few}
 use Rattle.attr_list.specs.Reading.{rowsFrom, listRows, lastBegins, closing}
 
 -- ---- the rows of a list are no more than its tokens through the closing bracket, so a buffer that 7 lets pass has room for them
@@ -48,25 +49,27 @@ pub kept-few : (l : Line) (from to : ℕ) → length (kept l from to) ≤ to - f
 unfolding kept
 kept-few l from to = omega (arith, without-few isAttrRef (tokens l from (to - from)), tokens-length l from (to - from))
 
-module _ (attribute-few : (block has : Bool) (ts : List Token) → length (attribute block has ts .rows) ≤ length ts + 1) where
-  pub parted-few : (l : Line) (block has : Bool) (from : ℕ) (cs : List ℕ) (end : ℕ) → Ascending from cs end → length (rowsFrom l block has (parted from cs end) .rows) ≤ end - from + 1
-  unfolding rowsFrom parted
-  parted-few l block has from [] end h =
-      omega (arith, length-append (attribute block has (kept l from end) .rows) [], attribute-few block has (kept l from end), kept-few l from end)
-  parted-few l block has from (c ∷ cs) end h =
-      let d = attribute block has (kept l from c) in
-      omega (arith, h .0, ascending-end (c + 1) cs end (h .1), length-append (d .rows) (rowsFrom l block (d .hasId) (parted (c + 1) cs end) .rows), attribute-few block has (kept l from c), kept-few l from c, parted-few l block (d .hasId) (c + 1) cs end (h .1))
+attribute-few : (block has : Bool) (ts : List Token) → length (attribute block has ts .rows) ≤ length ts + 1
+attribute-few block has ts = omega (arith, rows-few block has ts)
 
-  pub list-few : (l : Line) (block : Bool) (end : ℕ) → counted (l .kinds) ≤ end → length (listRows l block end) ≤ end + 1
-  unfolding rowsFrom
-  list-few l block end h = go (counted (l .kinds)) refl
-    where
-      few : List Stretch → Type 0
-      few ss = length (rowsFrom l block false ss .rows) ≤ end + 1
+pub parted-few : (l : Line) (block has : Bool) (from : ℕ) (cs : List ℕ) (end : ℕ) → Ascending from cs end → length (rowsFrom l block has (parted from cs end) .rows) ≤ end - from + 1
+unfolding rowsFrom parted
+parted-few l block has from [] end h =
+    omega (arith, length-append (attribute block has (kept l from end) .rows) [], attribute-few block has (kept l from end), kept-few l from end)
+parted-few l block has from (c ∷ cs) end h =
+    let d = attribute block has (kept l from c) in
+    omega (arith, h .0, ascending-end (c + 1) cs end (h .1), length-append (d .rows) (rowsFrom l block (d .hasId) (parted (c + 1) cs end) .rows), attribute-few block has (kept l from c), kept-few l from c, parted-few l block (d .hasId) (c + 1) cs end (h .1))
 
-      go : (n : ℕ) → counted (l .kinds) ≡ n → length (listRows l block end) ≤ end + 1
-      go zero e = subst few (sym (attributes-none (l .kinds) end e)) (omega arith)
-      go (suc n) e = subst few (sym (attributes-some (l .kinds) end (omega arith))) (omega (arith, parted-few l block false 0 (dividing (l .kinds)) end (dividing-ascend-to (l .kinds) end h)))
+pub list-few : (l : Line) (block : Bool) (end : ℕ) → counted (l .kinds) ≤ end → length (listRows l block end) ≤ end + 1
+unfolding rowsFrom
+list-few l block end h = go (counted (l .kinds)) refl
+  where
+    few : List Stretch → Type 0
+    few ss = length (rowsFrom l block false ss .rows) ≤ end + 1
+
+    go : (n : ℕ) → counted (l .kinds) ≡ n → length (listRows l block end) ≤ end + 1
+    go zero e = subst few (sym (attributes-none (l .kinds) end e)) (omega arith)
+    go (suc n) e = subst few (sym (attributes-some (l .kinds) end (omega arith))) (omega (arith, parted-few l block false 0 (dividing (l .kinds)) end (dividing-ascend-to (l .kinds) end h)))
 
 -- ---- the rows in the buffer
 

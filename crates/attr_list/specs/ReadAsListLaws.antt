@@ -7,10 +7,9 @@ use mathlib.Core.Path.{_≡_, refl, sym, ap, subst, _∙_}
 use mathlib.Core.List.{List, [], _∷_}
 use lib.Dec.{eqb, leb}
 use lib.ListN.{length}
-use borrow.Author.Tests.{eq-eqb, ne-eqb, eqb-true, eqb-false, leb-true}
+use borrow.Author.Tests.{eq-eqb, ne-eqb, eqb-false, leb-true}
 use Rattle.token.specs.Kind.{closeBracket}
-use Rattle.token.specs.Line.{Line, Token, check, refusal, mostTokens}
-use Rattle.token.specs.LineLaws.{Lent, lent}
+use Rattle.token.specs.Line.{Line, check, refusal}
 use Rattle.row.specs.Row.{width, roomFor, withRows}
 use Rattle.delimiters.specs.Count.{kindAt}
 use Rattle.delimiters.specs.Divide.{Closes}
@@ -22,7 +21,6 @@ use Rattle.closing.specs.declared.Closing.the-variants.{At, Nowhere}
 use Rattle.closing.specs.declared.LinkMacro.{LinkMacro}
 use Rattle.closing.specs.declared.LinkMacro.the-variants.{AsList, AsText}
 use Rattle.closing.specs.Link.{linkMacro}
-use Rattle.attribute.specs.Attribute.{attribute}
 use Rattle.attr_list.specs.declared.Entry.{Entry}
 use Rattle.attr_list.specs.declared.Entry.the-variants.{Block, BlockMacro, Inline, Link}
 use Rattle.attr_list.specs.Reading.{Reading, refused, gives, answer, buffer, rowsFrom, listRows, closing, listTo, linkTo, readBy, unlessClosed, turnedAway, unlessTurnedAway, reading}
@@ -68,86 +66,85 @@ taken-some most l room w = go (length (l .kinds)) refl
 
 -- ---- a list
 
-module _ (attribute-few : (block has : Bool) (ts : List Token) → length (attribute block has ts .rows) ≤ length ts + 1) where
-  module _ (l : Line) (given : List ℕ) (room : width * length (l .kinds) ≤ length given) where
-    list-read : (block : Bool) (end : ℕ) → IsBracket (l .kinds) end → Closes (l .kinds) end → ReadAsList block l given (length (listRows l block end)) (end + 1) (withRows given 0 (listRows l block end))
-    list-read block end b w =
-        let d = divided (l .kinds) end w in
-        let c = counts (l .kinds) in
-        let fits : width * length (listRows l block end) ≤ length given = omega (arith, list-few attribute-few l block end (d .within), b .among, room) in
-        record {
-          end = end;
-          consumed-through = refl;
-          within = omega (arith, b .among);
-          bracket = b .bracket;
-          not-the-last = c .within;
-          no-bracket = c .none-closes;
-          count-ends = c .ends;
-          before-the-bracket = d .within;
-          each-once = d .each-once;
-          only-commas = d .only-commas;
-          in-order = d .in-order;
-          outside = d .outside;
-          inside = d .inside;
-          how-many = refl;
-          numbers = rows-in-front given (listRows l block end) fits;
-          others = others-after given (listRows l block end) fits;
-        }
+module _ (l : Line) (given : List ℕ) (room : width * length (l .kinds) ≤ length given) where
+  list-read : (block : Bool) (end : ℕ) → IsBracket (l .kinds) end → Closes (l .kinds) end → ReadAsList block l given (length (listRows l block end)) (end + 1) (withRows given 0 (listRows l block end))
+  list-read block end b w =
+      let d = divided (l .kinds) end w in
+      let c = counts (l .kinds) in
+      let fits : width * length (listRows l block end) ≤ length given = omega (arith, list-few l block end (d .within), b .among, room) in
+      record {
+        end = end;
+        consumed-through = refl;
+        within = omega (arith, b .among);
+        bracket = b .bracket;
+        not-the-last = c .within;
+        no-bracket = c .none-closes;
+        count-ends = c .ends;
+        before-the-bracket = d .within;
+        each-once = d .each-once;
+        only-commas = d .only-commas;
+        in-order = d .in-order;
+        outside = d .outside;
+        inside = d .inside;
+        how-many = refl;
+        numbers = rows-in-front given (listRows l block end) fits;
+        others = others-after given (listRows l block end) fits;
+      }
 
-    -- an empty list
-    empty-read : (block : Bool) → 0 < length (l .kinds) → kindAt (l .kinds) 0 ≡ closeBracket → ReadAsList block l given 0 1 (withRows given 0 [])
-    unfolding rowsFrom
-    empty-read block some e =
-        let none : listRows l block 0 ≡ [] = ap (λ ss. rowsFrom l block false ss .rows) (attributes-none (l .kinds) 0 (count-first (l .kinds) e)) in
-        subst (λ rs. ReadAsList block l given (length rs) 1 (withRows given 0 rs)) none
-        (list-read block 0 (record { among = some; bracket = e }) (record { bracket = e; first = λ z. refl }))
+  -- an empty list
+  empty-read : (block : Bool) → 0 < length (l .kinds) → kindAt (l .kinds) 0 ≡ closeBracket → ReadAsList block l given 0 1 (withRows given 0 [])
+  unfolding rowsFrom
+  empty-read block some e =
+      let none : listRows l block 0 ≡ [] = ap (λ ss. rowsFrom l block false ss .rows) (attributes-none (l .kinds) 0 (count-first (l .kinds) e)) in
+      subst (λ rs. ReadAsList block l given (length rs) 1 (withRows given 0 rs)) none
+      (list-read block 0 (record { among = some; bracket = e }) (record { bracket = e; first = λ z. refl }))
 
-    -- ---- what an entry gives
+  -- ---- what an entry gives
 
-    abbrev Right : Entry → Reading → Type 0
-    Right e r = WhenReadAsList e l given (answer r) (buffer given r)
+  abbrev Right : Entry → Reading → Type 0
+  Right e r = WhenReadAsList e l given (answer r) (buffer given r)
 
-    module _ (some : 0 < length (l .kinds)) where
-      right-list : (e : Entry) (c : Closing) → (kindAt (l .kinds) 0 ≡ closeBracket → ⊥) → Bracket (l .kinds) c → Right e (listTo l (isBlock e) c)
-      right-list e (At end) h w = λ t. list-read (isBlock e) (end .0) w (bracket-closes (l .kinds) h (end .0) w)
-      right-list e Nowhere h w = tt
+  module _ (some : 0 < length (l .kinds)) where
+    right-list : (e : Entry) (c : Closing) → (kindAt (l .kinds) 0 ≡ closeBracket → ⊥) → Bracket (l .kinds) c → Right e (listTo l (isBlock e) c)
+    right-list e (At end) h w = λ t. list-read (isBlock e) (end .0) w (bracket-closes (l .kinds) h (end .0) w)
+    right-list e Nowhere h w = tt
 
-      right-text : (end : ℕ) (b : Bool) (r : Reading) → (linkMacro (l .kinds) (l .pairs) ≡ AsList → ⊥) → Right Link (cond b r (refused 8))
-      right-text end true (refused n) h = tt
-      right-text end true (gives rows consumed) h = λ t. absurd (h t)
-      right-text end false r h = tt
+    right-text : (end : ℕ) (b : Bool) (r : Reading) → (linkMacro (l .kinds) (l .pairs) ≡ AsList → ⊥) → Right Link (cond b r (refused 8))
+    right-text end true (refused n) h = tt
+    right-text end true (gives rows consumed) h = λ t. absurd (h t)
+    right-text end false r h = tt
 
-      right-link : (m : LinkMacro) → linkMacro (l .kinds) (l .pairs) ≡ m → (kindAt (l .kinds) 0 ≡ closeBracket → ⊥) → Right Link (linkTo l m)
-      right-link AsList e h = right-list Link (closing false (l .kinds)) h (closing-is (l .kinds) some false)
-      right-link (AsText end) e h = right-text (end .0) (eqb (kindAt (l .kinds) (end .0)) closeBracket) _ (λ t. text-is-none end (sym e ∙ t))
-        where
-          told : LinkMacro → ℕ
-          told AsList = 0
-          told (AsText p) = 1
+    right-link : (m : LinkMacro) → linkMacro (l .kinds) (l .pairs) ≡ m → (kindAt (l .kinds) 0 ≡ closeBracket → ⊥) → Right Link (linkTo l m)
+    right-link AsList e h = right-list Link (closing false (l .kinds)) h (closing-is (l .kinds) some false)
+    right-link (AsText end) e h = right-text (end .0) (eqb (kindAt (l .kinds) (end .0)) closeBracket) _ (λ t. text-is-none end (sym e ∙ t))
+      where
+        told : LinkMacro → ℕ
+        told AsList = 0
+        told (AsText p) = 1
 
-          text-is-none : (p : Rattle.token.specs.declared.TokenPlace.TokenPlace) → AsText p ≡ AsList → ⊥
-          text-is-none p z = let y : _≡_ {A = ℕ} 1 0 = ap told z in omega arith
+        text-is-none : (p : Rattle.token.specs.declared.TokenPlace.TokenPlace) → AsText p ≡ AsList → ⊥
+        text-is-none p z = let y : _≡_ {A = ℕ} 1 0 = ap told z in omega arith
 
-      right-by : (e : Entry) → (kindAt (l .kinds) 0 ≡ closeBracket → ⊥) → Right e (readBy e l)
-      right-by Block h = right-list Block (closing true (l .kinds)) h (closing-is (l .kinds) some true)
-      right-by BlockMacro h = right-list BlockMacro (closing true (l .kinds)) h (closing-is (l .kinds) some true)
-      right-by Inline h = right-list Inline (closing false (l .kinds)) h (closing-is (l .kinds) some false)
-      right-by Link h = right-link (linkMacro (l .kinds) (l .pairs)) refl h
+    right-by : (e : Entry) → (kindAt (l .kinds) 0 ≡ closeBracket → ⊥) → Right e (readBy e l)
+    right-by Block h = right-list Block (closing true (l .kinds)) h (closing-is (l .kinds) some true)
+    right-by BlockMacro h = right-list BlockMacro (closing true (l .kinds)) h (closing-is (l .kinds) some true)
+    right-by Inline h = right-list Inline (closing false (l .kinds)) h (closing-is (l .kinds) some false)
+    right-by Link h = right-link (linkMacro (l .kinds) (l .pairs)) refl h
 
-      right-closed : (e : Entry) → Right e (unlessClosed (l .kinds) (readBy e l))
-      right-closed e = go (ℕ-discrete (kindAt (l .kinds) 0) closeBracket)
-        where
-          go : Dec (kindAt (l .kinds) 0 ≡ closeBracket) → Right e (unlessClosed (l .kinds) (readBy e l))
-          go (yes z) = subst (λ (b : Bool). Right e (cond b (gives [] 1) (readBy e l))) (sym (eq-eqb (kindAt (l .kinds) 0) closeBracket z)) (λ t. empty-read (isBlock e) some z)
-          go (no z) = subst (λ (b : Bool). Right e (cond b (gives [] 1) (readBy e l))) (sym (ne-eqb (kindAt (l .kinds) 0) closeBracket z)) (right-by e z)
+    right-closed : (e : Entry) → Right e (unlessClosed (l .kinds) (readBy e l))
+    right-closed e = go (ℕ-discrete (kindAt (l .kinds) 0) closeBracket)
+      where
+        go : Dec (kindAt (l .kinds) 0 ≡ closeBracket) → Right e (unlessClosed (l .kinds) (readBy e l))
+        go (yes z) = subst (λ (b : Bool). Right e (cond b (gives [] 1) (readBy e l))) (sym (eq-eqb (kindAt (l .kinds) 0) closeBracket z)) (λ t. empty-read (isBlock e) some z)
+        go (no z) = subst (λ (b : Bool). Right e (cond b (gives [] 1) (readBy e l))) (sym (ne-eqb (kindAt (l .kinds) 0) closeBracket z)) (right-by e z)
 
-  -- whatever the entry, the limit, the line and the buffer: where the line is read as a list the record holds of the answer and of the buffer on return
-  pub read-as-list : (most : ℕ) (e : Entry) (l : Line) (given : List ℕ) → WhenReadAsList e l given (answer (reading most e l (length given))) (buffer given (reading most e l (length given)))
-  unfolding reading
-  read-as-list most e l given = go (turnedAway most l (length given)) refl
-    where
-      go : (n : ℕ) → turnedAway most l (length given) ≡ n → WhenReadAsList e l given (answer (unlessTurnedAway n (unlessClosed (l .kinds) (readBy e l)))) (buffer given (unlessTurnedAway n (unlessClosed (l .kinds) (readBy e l))))
-      go zero z =
-          let w = taken most l (length given) z in
-          right-closed l given (w .fits) (taken-some most l (length given) w) e
-      go (suc n) z = tt
+-- whatever the entry, the limit, the line and the buffer: where the line is read as a list the record holds of the answer and of the buffer on return
+pub read-as-list : (most : ℕ) (e : Entry) (l : Line) (given : List ℕ) → WhenReadAsList e l given (answer (reading most e l (length given))) (buffer given (reading most e l (length given)))
+unfolding reading
+read-as-list most e l given = go (turnedAway most l (length given)) refl
+  where
+    go : (n : ℕ) → turnedAway most l (length given) ≡ n → WhenReadAsList e l given (answer (unlessTurnedAway n (unlessClosed (l .kinds) (readBy e l)))) (buffer given (unlessTurnedAway n (unlessClosed (l .kinds) (readBy e l))))
+    go zero z =
+        let w = taken most l (length given) z in
+        right-closed l given (w .fits) (taken-some most l (length given) w) e
+    go (suc n) z = tt

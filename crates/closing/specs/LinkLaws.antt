@@ -121,3 +121,24 @@ unfolding linkMacro
 look-start kinds pairs =
     let e : length kinds - 1 - 0 ≡ length kinds - 1 = omega arith in
     rw e
+
+-- ---- a text ends before a token of the line
+
+abbrev pub Within : (n : ℕ) → LinkMacro → Type 0
+Within n AsList = Unit {0}
+Within n (AsText end) = end .0 ≤ n
+
+module _ (kinds pairs : List ℕ) where
+  decided-within : (t : Turn) (p n : ℕ) (more : Seen → LinkMacro) → p ≤ n → ((s : Seen) → Within n (more s)) → Within n (decided t p more)
+  decided-within Equals p n more h f = tt
+  decided-within Closed p n more h f = h
+  decided-within (On s) p n more h f = f s
+
+  look-within : (s : Seen) (p n m : ℕ) → p + n ≡ m → Within m (lookFrom kinds pairs s p n)
+  unfolding lookFrom
+  look-within s p zero m e = omega arith
+  look-within s p (suc n) m e = decided-within (turn s (getD kinds p 0) (eqb (getD pairs (2 * p + 1) 0) 1)) p m (λ t. lookFrom kinds pairs t (suc p) n) (omega arith) (λ t. look-within t (suc p) n m (omega arith))
+
+  pub link-within : Within (length kinds - 1) (linkMacro kinds pairs)
+  unfolding linkMacro
+  link-within = look-within (sight false false eof) 0 (length kinds - 1) (length kinds - 1) (omega arith)

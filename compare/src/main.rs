@@ -10,12 +10,15 @@ mod check;
 mod library;
 mod lines;
 mod model;
+mod numbers;
 mod record;
 mod rng;
 mod rust_side;
 mod self_test;
 #[allow(dead_code)]
 mod stand_in;
+#[allow(dead_code)]
+mod unreached;
 
 #[allow(dead_code)]
 #[path = "../target/rust/customize_subs.rs"]
@@ -53,7 +56,7 @@ mod variants {
     }
 }
 
-pub use stand_in::CellContentStyle;
+pub use unreached::CellContentStyle;
 
 use std::process::ExitCode;
 use std::sync::Mutex;

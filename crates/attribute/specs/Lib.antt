@@ -1,1 +1,3 @@
 pub mod Attribute
+pub mod Laws
+pub mod Parts

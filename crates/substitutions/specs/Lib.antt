@@ -1,0 +1,4 @@
+pub mod Kinds
+pub mod Held
+pub mod Moves
+pub mod LawsPlaces

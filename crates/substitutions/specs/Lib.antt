@@ -1,4 +1,6 @@
 pub mod Kinds
 pub mod Held
 pub mod Moves
+pub mod LawsKinds
+pub mod LawsHeld
 pub mod LawsPlaces

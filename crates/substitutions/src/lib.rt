@@ -1,6 +1,7 @@
 // A substitution set: seven places and a flag byte, by value, and its three moves in port and in sheet mode.
-mod places;
 mod flags;
+mod places;
+mod rules;
 ghost use mathlib.Core.Path.{_≡_};
 ghost use mathlib.Core.Bool.{true, false};
 ghost use Prim.Native.Nat.{_≤_, _<_};

@@ -70,9 +70,9 @@ facts s e =
       small = and-right (eqb (length p) 7) (small p) g2;
       packed = and-right (eqb (length p) 7 && small p) (packed p) g3;
       within = λ k a b.
-        within-of (times k p) (flagged k (s .flags))
-        (each-at 7 (λ k. leb (times k p) 1) (and-right (eqb (length p) 7 && small p && packed p) (once p) g4) k a b)
-        (each-at 7 (λ k. eqb (times k p) 0 || flagged k (s .flags)) (and-right (eqb (length p) 7 && small p && packed p && once p) (covered s) g5) k a b);
+          within-of (times k p) (flagged k (s .flags))
+          (each-at 7 (λ k. leb (times k p) 1) (and-right (eqb (length p) 7 && small p && packed p) (once p) g4) k a b)
+          (each-at 7 (λ k. eqb (times k p) 0 || flagged k (s .flags)) (and-right (eqb (length p) 7 && small p && packed p && once p) (covered s) g5) k a b);
       clear = ltb-true (s .flags) 128 (and-right (eqb (length p) 7 && small p && packed p && once p && covered s) (ltb (s .flags) 128) g6);
       few = leb-true (spares s) 1 (and-right (eqb (length p) 7 && small p && packed p && once p && covered s && ltb (s .flags) 128) (leb (spares s) 1) e);
     }
@@ -234,6 +234,7 @@ held-is s seven = bool-eq (held s) (few (cond (ltb (s .flags) 128) (left (s .fla
     to e =
         let l = left-spares s e in
         rw (lt-ltb (s .flags) 128 (facts s e .clear)) (few-is (left (s .flags) (s .places)) (l .0) ∙ le-leb (flags (left (s .flags) (s .places))) 1 (omega (arith, l .1, facts s e .few)))
+
     from : (t : Bool) → ltb (s .flags) 128 ≡ t → few (cond t (left (s .flags) (s .places)) 255) ≡ true → held s ≡ true
     from false q e = absurd (false≢true (sym (few-big 255 (omega arith)) ∙ e))
     from true q e =

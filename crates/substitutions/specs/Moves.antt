@@ -15,6 +15,9 @@ use Rattle.substitutions.specs.Held.{held, sound}
 abbrev pub set : List ℕ → ℕ → Substitutions
 set places flags = record { places = places; flags = flags }
 
+abbrev pub empty-set : Substitutions
+empty-set = set (0 ∷ 0 ∷ 0 ∷ 0 ∷ 0 ∷ 0 ∷ 0 ∷ []) 0
+
 -- How many places insert may fill: the first six; sheet mode: insert may fill the seventh place.
 abbrev pub room : Mode → ℕ
 room Port = 6

@@ -1,9 +1,11 @@
 // What decides whether a set is held.
-use crate::flags::{flag_of, is_flagged};
+use crate::flags::flag_of;
+use crate::flags::is_flagged;
 ghost use mathlib.Core.Path.{_≡_};
 ghost use Prim.Native.Nat.{_≤_, _<_};
 ghost use lib.ListN.{drop};
 ghost use Rattle.substitutions.specs.Held.{empty};
+ghost use Rattle.substitutions.specs.LawsKinds.{few};
 ghost use Rattle.substitutions.specs.LawsHeld.{left};
 
 // Whether all places from `from` on are empty.
@@ -46,4 +48,21 @@ pub fn take_flags(places: [u8; 7], flags: u8) -> u8
         i = i + 1;
     }
     f
+}
+
+// Whether a byte has at most one of the seven flags, and no bit 7.
+pub fn at_most_one(flags: u8) -> bool
+    ensures { λ r. ⌜ r ≡ few flags ⌝ }
+{
+    match flags {
+        0 => true,
+        1 => true,
+        2 => true,
+        4 => true,
+        8 => true,
+        16 => true,
+        32 => true,
+        64 => true,
+        _ => false,
+    }
 }

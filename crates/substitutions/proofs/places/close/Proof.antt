@@ -47,7 +47,7 @@ loop-less c = omega arith
 
 -- src/places.rt:31:5
 loop-again : tie.Need-loop-again Inv-loop μ-loop
-loop-again c = 
+loop-again c =
     let l = c .before .loop in
     (simp length-set (l .inv .0), (omega arith, closed-next (l .p) (l .i) (omega arith) ∙ l .inv .1 .1))
 
@@ -57,7 +57,7 @@ array-write-p-2 c = search needs
 
 -- src/places.rt:25:1
 returns : tie.Need-returns Inv-loop μ-loop
-returns c = 
+returns c =
     let l = c .before .loop in
     closed-last (l .p) (l .i) (omega arith) ∙ l .inv .1 .1
 

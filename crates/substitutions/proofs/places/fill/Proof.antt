@@ -36,7 +36,7 @@ array-write-p c = search needs
 
 -- src/places.rt:17:13
 returns : tie.Need-returns Inv-loop μ-loop
-returns c = 
+returns c =
     let l = c .before .before .loop in
     let a = c .before .before .before .args in
     filled-here (l .p) (l .i) (a .k) (a .n) (omega arith) (omega arith) (c .if1 .taken) ∙ l .inv .1 .1
@@ -51,14 +51,14 @@ loop-less c = omega arith
 
 -- src/places.rt:14:5
 loop-again : tie.Need-loop-again Inv-loop μ-loop
-loop-again c = 
+loop-again c =
     let l = c .before .before .loop in
     let a = c .before .before .before .args in
     (l .inv .0, (omega arith, sym (filled-next (l .p) (l .i) (a .k) (a .n) (omega arith) (omega arith) (c .if1 .left)) ∙ l .inv .1 .1))
 
 -- src/places.rt:8:1
 returns-2 : tie.Need-returns-2 Inv-loop μ-loop
-returns-2 c = 
+returns-2 c =
     let l = c .before .loop in
     let a = c .before .before .args in
     sym (filled-done (l .p) (l .i) (a .k) (a .n) (omega arith)) ∙ l .inv .1 .1

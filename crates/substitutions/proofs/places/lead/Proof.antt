@@ -37,7 +37,7 @@ array-write-p c = search needs
 
 -- src/places.rt:63:13
 returns : tie.Need-returns Inv-loop μ-loop
-returns c = 
+returns c =
     let l = c .before .before .loop in
     pushed-here (l .p) (l .i) (c .before .before .before .args .k) 0 (omega arith) (l .carried) (c .if1 .taken) ∙ l .inv .1 .1 .1
 
@@ -51,7 +51,7 @@ loop-less c = omega arith
 
 -- src/places.rt:59:5
 loop-again : tie.Need-loop-again Inv-loop μ-loop
-loop-again c = 
+loop-again c =
     let l = c .before .before .loop in (
       l .inv .0,
       (
@@ -62,7 +62,7 @@ loop-again c =
 
 -- src/places.rt:53:1
 returns-2 : tie.Need-returns-2 Inv-loop μ-loop
-returns-2 c = 
+returns-2 c =
     let l = c .before .loop in
     sym (pushed-done (l .p) (l .i) (l .carried) (c .before .before .args .k) (omega arith)) ∙ l .inv .1 .1 .1
 

@@ -37,7 +37,7 @@ close-requires c κs = search needs
 
 -- src/places.rt:45:13
 returns : tie.Need-returns Inv-loop μ-loop
-returns c = 
+returns c =
     let l = c .before .before .before .loop in
     let a = c .before .before .before .before .args in
     c .close .ensures ∙ sym (without-here (a .t1) (l .i) (a .k) 0 (omega arith) (c .before .if1 .taken)) ∙ l .inv .1 .1
@@ -52,14 +52,14 @@ loop-less c = omega arith
 
 -- src/places.rt:43:5
 loop-again : tie.Need-loop-again Inv-loop μ-loop
-loop-again c = 
+loop-again c =
     let l = c .before .before .loop in
     let a = c .before .before .before .args in
     (l .inv .0, (omega arith, sym (without-next (a .t1) (l .i) (a .k) 0 (omega arith) (c .if1 .left)) ∙ l .inv .1 .1))
 
 -- src/places.rt:39:1
 returns-2 : tie.Need-returns-2 Inv-loop μ-loop
-returns-2 c = 
+returns-2 c =
     let l = c .before .loop in
     let a = c .before .before .args in
     sym (without-done (a .t1) (l .i) (a .k) (omega arith)) ∙ l .inv .1 .1

@@ -32,7 +32,7 @@ array-read-if1 c = search needs
 
 -- src/rules.rt:17:13
 returns : tie.Need-returns Inv-loop μ-loop
-returns c = 
+returns c =
     let l = c .before .before .loop in
     let a = c .before .before .before .args in
     empty-here (a .t1) (l .i) (omega arith) (c .if1 .taken) ∙ l .inv .1 .1
@@ -47,14 +47,14 @@ loop-less c = omega arith
 
 -- src/rules.rt:15:5
 loop-again : tie.Need-loop-again Inv-loop μ-loop
-loop-again c = 
+loop-again c =
     let l = c .before .before .loop in
     let a = c .before .before .before .args in
     (l .inv .0, (omega arith, empty-next (a .t1) (l .i) (omega arith) (c .if1 .left) ∙ l .inv .1 .1))
 
 -- src/rules.rt:10:1
 returns-2 : tie.Need-returns-2 Inv-loop μ-loop
-returns-2 c = 
+returns-2 c =
     let l = c .before .loop in
     let a = c .before .before .args in
     empty-end (a .t1) (l .i) (omega arith) ∙ l .inv .1 .1

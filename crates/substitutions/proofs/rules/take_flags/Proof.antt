@@ -39,21 +39,21 @@ rest-empty-requires c κs = search needs
 
 -- src/rules.rt:35:17
 returns : tie.Need-returns Inv-loop μ-loop
-returns c = 
+returns c =
     let l = c .before .before .before .before .loop in
     let a = c .before .before .before .before .before .args in
     rw (sym (c .before .rest-empty .ensures) ∙ c .if2 .taken) at (sym (left-empty (a .t1) (l .i) (omega arith) (l .f) (c .before .before .if1 .taken))) ∙ l .inv .1 .1 .1
 
 -- src/rules.rt:37:13
 returns-2 : tie.Need-returns-2 Inv-loop μ-loop
-returns-2 c = 
+returns-2 c =
     let l = c .before .before .before .before .loop in
     let a = c .before .before .before .before .before .args in
     rw (sym (c .before .rest-empty .ensures) ∙ c .if2 .left) at (sym (left-empty (a .t1) (l .i) (omega arith) (l .f) (c .before .before .if1 .taken))) ∙ l .inv .1 .1 .1
 
 -- src/rules.rt:40:13
 returns-3 : tie.Need-returns-3 Inv-loop μ-loop
-returns-3 c = 
+returns-3 c =
     let l = c .before .before .before .loop in
     let a = c .before .before .before .before .args in
     sym (left-over (a .t1) (l .i) (omega arith) (l .f) (c .if3 .taken)) ∙ l .inv .1 .1 .1
@@ -64,7 +64,7 @@ is-flagged-requires c κs = search needs
 
 -- src/rules.rt:43:13
 returns-4 : tie.Need-returns-4 Inv-loop μ-loop
-returns-4 c = 
+returns-4 c =
     let l = c .before .before .before .before .before .loop in
     let a = c .before .before .before .before .before .before .args in
     sym (left-bare (a .t1) (l .i) (omega arith) (l .f) (c .before .before .before .if1 .left) (sym (c .before .is-flagged .ensures) ∙ not-true (c .before .is-flagged .result) (c .if4 .taken))) ∙ l .inv .1 .1 .1
@@ -75,7 +75,7 @@ flag-of-requires c κs = search needs
 
 -- src/rules.rt:45:13
 sub-f : tie.Need-sub-f Inv-loop μ-loop
-sub-f c = 
+sub-f c =
     let l = c .before .before .before .before .before .before .loop in
     let a = c .before .before .before .before .before .before .before .args in
     omega (arith, flag-within (l .f) (getD (a .t1) (l .i) 0) (omega arith) (omega arith) (omega arith) (sym (c .before .before .is-flagged .ensures) ∙ not-false (c .before .before .is-flagged .result) (c .before .if4 .left)))
@@ -90,10 +90,9 @@ loop-less c = omega arith
 
 -- src/rules.rt:31:5
 loop-again : tie.Need-loop-again Inv-loop μ-loop
-loop-again c = 
+loop-again c =
     let l = c .before .before .before .before .before .before .loop in
-    let a = c .before .before .before .before .before .before .before .args in
-    (
+    let a = c .before .before .before .before .before .before .before .args in (
       l .inv .0,
       (
         omega arith,
@@ -106,7 +105,7 @@ loop-again c =
 
 -- src/rules.rt:25:1
 returns-5 : tie.Need-returns-5 Inv-loop μ-loop
-returns-5 c = 
+returns-5 c =
     let l = c .before .loop in
     let a = c .before .before .args in
     sym (left-end (a .t1) (l .i) (l .f) (omega arith)) ∙ l .inv .1 .1 .1

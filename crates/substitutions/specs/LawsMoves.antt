@@ -34,7 +34,7 @@ empty-count [] e = refl
 empty-count (p ∷ ps) e =
     count-zero p ps (eqb-true p 0 (and-left (eqb p 0) (empty ps) e)) ∙ empty-count ps (and-right (eqb p 0) (empty ps) e)
 
-empty-packed : (ps : List ℕ) → empty ps ≡ true → packed ps ≡ true
+pub empty-packed : (ps : List ℕ) → empty ps ≡ true → packed ps ≡ true
 unfolding empty packed
 empty-packed [] e = refl
 empty-packed (p ∷ ps) e = rw (and-left (eqb p 0) (empty ps) e) (and-right (eqb p 0) (empty ps) e)
@@ -464,11 +464,11 @@ module _ (s : Substitutions) (k : ℕ) (a : 1 ≤ k) (b : k ≤ 7) (h : Facts s)
       by true e false q = led-placed (omega (arith, eqb-false (times k P) 0 q))
 
 -- The laws.
-sound-held : (s : Substitutions) → sound s ≡ true → held s ≡ true
+pub sound-held : (s : Substitutions) → sound s ≡ true → held s ≡ true
 unfolding sound
 sound-held s e = and-left (held s) (eqb (spares s) 0) e
 
-sound-spares : (s : Substitutions) → sound s ≡ true → spares s ≡ 0
+pub sound-spares : (s : Substitutions) → sound s ≡ true → spares s ≡ 0
 unfolding sound
 sound-spares s e = eqb-true (spares s) 0 (and-right (held s) (eqb (spares s) 0) e)
 

@@ -6,3 +6,5 @@ pub mod LawsHeld
 pub mod LawsMoves
 pub mod LawsPlaces
 pub mod LawsAnswers
+pub mod Reading
+pub mod LawsReading

@@ -20,7 +20,7 @@ unfoldable pub count : List ℕ → ℕ
 count [] = 0
 count (p ∷ ps) = one (not (eqb p 0)) + count ps
 
-count-cons : (p : ℕ) (ps : List ℕ) → (p ≡ 0 → ⊥) → count (p ∷ ps) ≡ 1 + count ps
+pub count-cons : (p : ℕ) (ps : List ℕ) → (p ≡ 0 → ⊥) → count (p ∷ ps) ≡ 1 + count ps
 unfolding count
 count-cons p ps z = rw (ne-eqb p 0 z)
 
@@ -39,7 +39,7 @@ unfolding empty packed
 empty-packed [] e = refl
 empty-packed (p ∷ ps) e = rw (and-left (eqb p 0) (empty ps) e) (and-right (eqb p 0) (empty ps) e)
 
-empty-all : (p : ℕ) (ps : List ℕ) → eqb p 0 ≡ true → empty ps ≡ true → empty (p ∷ ps) ≡ true
+pub empty-all : (p : ℕ) (ps : List ℕ) → eqb p 0 ≡ true → empty ps ≡ true → empty (p ∷ ps) ≡ true
 unfolding empty
 empty-all p ps q e = and-both (eqb p 0) (empty ps) q e
 
@@ -107,7 +107,7 @@ filled-times (suc n) k j (p ∷ ps) c h g = by (eqb p 0) refl (filled-times n k 
     by true q ih = rw (eqb-true p 0 q, ne-eqb 0 j (λ z. omega arith)) (omega arith)
     by false q ih = omega (arith, ih (omega (arith, count-cons p ps (eqb-false p 0 q))) (omega arith))
 
-filled-full : (n k : ℕ) (ps : List ℕ) → packed ps ≡ true → n ≤ count ps → filled n k ps ≡ ps
+pub filled-full : (n k : ℕ) (ps : List ℕ) → packed ps ≡ true → n ≤ count ps → filled n k ps ≡ ps
 unfolding filled packed
 filled-full zero k ps h g = refl
 filled-full (suc n) k [] h g = refl
@@ -145,7 +145,7 @@ snoc-times j [] c = rw (ne-eqb 0 j (λ z. omega arith))
 snoc-times j (p ∷ ps) c = ap (λ (n : ℕ). one (eqb p j) + n) (snoc-times j ps c)
 
 -- Remove, on the places.
-without-length : (k : ℕ) (ps : List ℕ) → length (without k ps) ≡ length ps
+pub without-length : (k : ℕ) (ps : List ℕ) → length (without k ps) ≡ length ps
 unfolding without
 without-length k [] = refl
 without-length k (p ∷ ps) = by (eqb p k) (without-length k ps)
@@ -182,7 +182,7 @@ without-in k j (p ∷ ps) c h = by (eqb p k) refl (without-in k j ps c)
     by true q ih = rw (eqb-true p k q, snoc-times j ps c)
     by false q ih = omega (arith, ih (omega (arith, h, ap one q)))
 
-without-packed : (k : ℕ) (ps : List ℕ) → 1 ≤ k → packed ps ≡ true → packed (without k ps) ≡ true
+pub without-packed : (k : ℕ) (ps : List ℕ) → 1 ≤ k → packed ps ≡ true → packed (without k ps) ≡ true
 unfolding without packed
 without-packed k [] a h = refl
 without-packed k (p ∷ ps) a h = by (eqb p k) (eqb p 0) refl refl (without-packed k ps a)
@@ -197,7 +197,7 @@ without-packed k (p ∷ ps) a h = by (eqb p k) (eqb p 0) refl refl (without-pack
     by false false q z ih = rw z (ih (rw z at h))
 
 -- Prepend, on the places: x before a list, of which the last place is empty and falls off.
-take-empty : (n : ℕ) (ps : List ℕ) → empty ps ≡ true → empty (take n ps) ≡ true
+pub take-empty : (n : ℕ) (ps : List ℕ) → empty ps ≡ true → empty (take n ps) ≡ true
 unfolding empty
 take-empty zero ps e = refl
 take-empty (suc n) [] e = refl
@@ -252,7 +252,7 @@ module _ (s : Substitutions) (k : ℕ) (a : 1 ≤ k) (b : k ≤ 7) (h : Facts s)
   F = s .flags
 
   -- A kind with no flag stands nowhere.
-  absent : flagged k F ≡ false → times k P ≡ 0
+  pub absent : flagged k F ≡ false → times k P ≡ 0
   absent e = omega (arith, h .within k a b, ap one e)
 
   -- kind k has no place, so six places are filled at most
@@ -389,20 +389,30 @@ module _ (s : Substitutions) (k : ℕ) (a : 1 ≤ k) (b : k ≤ 7) (h : Facts s)
   led-new-sum : times k P ≡ 0 → sum 7 (λ j. times j (led k P)) ≡ 1 + sum 7 (λ j. times j P)
   led-new-sum z = hit-sum k (λ j. times j (led k P)) (λ j. times j P) a b (led-new z)
 
-  -- the kind had a place: it has one again
-  led-old : 1 ≤ times k P → (j : ℕ) → 1 ≤ j → j ≤ 7 → times j (led k P) ≡ times j P
-  led-old p j c d =
-      led-times (without k P) refl
-      (omega (
+  -- without the kind six places are filled at most
+  placed-count : 1 ≤ times k P → count (without k P) < 7
+  placed-count p =
+      omega (
         arith,
         sum-times P (h .small),
         sum-times (without k P) (without-small k P (h .small)),
         hit-sum k (λ j. times j P) (λ j. times j (without k P)) a b (λ j c d. sym (without-in k j P c p)),
         spare-sum s (h .within),
         flags-seven F,
-      ))
-      j c
-      ∙ without-in k j P c p
+      )
+
+  pub without-count : count (without k P) < 7
+  without-count = by (eqb (times k P) 0) refl
+    where
+      by : (t : Bool) → eqb (times k P) 0 ≡ t → count (without k P) < 7
+      by true q =
+          let z : times k P ≡ 0 = eqb-true (times k P) 0 q in
+          rw (without-out k P z) (omega (arith, unplaced-count z))
+      by false q = placed-count (omega (arith, eqb-false (times k P) 0 q))
+
+  -- the kind had a place: it has one again
+  led-old : 1 ≤ times k P → (j : ℕ) → 1 ≤ j → j ≤ 7 → times j (led k P) ≡ times j P
+  led-old p j c d = led-times (without k P) refl (placed-count p) j c ∙ without-in k j P c p
 
   led-clear : flagged k F ≡ false → Kept s (set (led k P) (F + flagOf k))
   led-clear e =

@@ -177,6 +177,7 @@ held-read s e =
           h .within k n (small-at (s .places) i (h .small)),
           one-le (flagged k (s .flags)),
         ))
+
     flag-at : Facts s → (i : ℕ) → i < 7 → (place s i ≡ 0 → ⊥) → flagged (place s i) (s .flags) ≡ true
     flag-at h i lt z =
         let k = place s i in
@@ -185,6 +186,7 @@ held-read s e =
         by : (t : Bool) → 1 ≤ one t → t ≡ true
         by true q = refl
         by false q = absurd (omega arith)
+
     same : Facts s → (j k : ℕ) → Spare s j → Spare s k → (t u : Bool) → ltb j k ≡ t → ltb k j ≡ u → j ≡ k
     same h j k p q true u x y =
         absurd (omega (arith, h .few, sum-two 7 (spare s) j k (p .from) (ltb-true j k x) (q .to) (spare-test s j (h .seven) p) (spare-test s k (h .seven) q)))
@@ -212,6 +214,7 @@ held-decides s h =
         nonzero k a z = omega arith
     within k a b false q =
         rw q (omega (arith, times-none k (s .places) (λ i lt d. false≢true (sym q ∙ ap (λ (n : ℕ). flagged n (s .flags)) (sym d) ∙ h .covered i (omega (arith, h .seven)) (λ z. omega (arith, z, d))))))
+
     apart : (j k : ℕ) → 1 ≤ j → j < k → k ≤ 7 → spare s j ≡ true → spare s k ≡ true → ⊥
     apart j k a lt b d e =
         omega (arith, h .one-spare j k (spare-read s j (h .seven) a (omega arith) d) (spare-read s k (h .seven) (omega arith) b e))

@@ -8,3 +8,4 @@ pub mod LawsPlaces
 pub mod LawsAnswers
 pub mod Reading
 pub mod LawsReading
+pub mod LawsOrder

@@ -1,0 +1,4 @@
+pub mod Names
+pub mod Parts
+pub mod Customizing
+pub mod Cases

@@ -2,3 +2,4 @@ pub mod Names
 pub mod Parts
 pub mod Customizing
 pub mod Cases
+pub mod LawsNames

@@ -1,4 +1,5 @@
 // What the text of a subs attribute makes of a substitution set, in port and in sheet mode.
+mod names;
 
 // A name of one kind or of a group of kinds.
 pub enum StepOrGroup {

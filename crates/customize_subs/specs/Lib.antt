@@ -3,3 +3,5 @@ pub mod Parts
 pub mod Customizing
 pub mod Cases
 pub mod LawsNames
+pub mod LawsParts
+pub mod LawsCustomizing

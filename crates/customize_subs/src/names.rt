@@ -1,5 +1,6 @@
 // The names of the kinds and of the groups.
-use crate::{Lookup, StepOrGroup};
+use crate::Lookup;
+use crate::StepOrGroup;
 ghost use mathlib.Core.Path.{_≡_};
 ghost use Prim.Native.Nat.{_≤_, _-_};
 ghost use lib.ListN.{length, take, drop};

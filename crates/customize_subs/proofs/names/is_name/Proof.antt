@@ -40,7 +40,7 @@ shared-slice-read-if2-2 c = omega arith
 
 -- src/names.rt:18:13
 returns-2 : tie.Need-returns-2 Inv-loop μ-loop
-returns-2 c = 
+returns-2 c =
     let a = c .before .before .before .before .before .before .args in
     let i = c .before .before .before .before .loop .i in
     same-stop (a .part .now) (a .name .now) i (omega arith) (omega arith) (c .if2 .taken) ∙ c .before .before .before .before .loop .inv .1
@@ -55,7 +55,7 @@ loop-less c = omega arith
 
 -- src/names.rt:16:5
 loop-again : tie.Need-loop-again Inv-loop μ-loop
-loop-again c = 
+loop-again c =
     let a = c .before .before .before .before .before .before .args in
     let i = c .before .before .before .before .loop .i in
     (omega arith, same-next (a .part .now) (a .name .now) i (omega arith) (omega arith) (c .if2 .left) ∙ c .before .before .before .before .loop .inv .1)

@@ -40,7 +40,7 @@ is-name-requires-2 c κs = search needs
 -- src/names.rt:32:9
 returns-2 : tie.Need-returns-2
 unfolding lookupOf
-returns-2 c = 
+returns-2 c =
     let c1 = c .before .before .before in
     rw (sym (c1 .before .is-name .ensures) ∙ c1 .if1 .left, sym (c .before .is-name2 .ensures) ∙ c .if2 .taken)
 
@@ -55,7 +55,7 @@ is-name-requires-3 c κs = search needs
 -- src/names.rt:35:9
 returns-3 : tie.Need-returns-3
 unfolding lookupOf
-returns-3 c = 
+returns-3 c =
     let c2 = c .before .before .before in
     let c1 = c2 .before .before .before in
     rw (sym (c1 .before .is-name .ensures) ∙ c1 .if1 .left, sym (c2 .before .is-name2 .ensures) ∙ c2 .if2 .left, sym (c .before .is-name3 .ensures) ∙ c .if3 .taken)
@@ -71,7 +71,7 @@ is-name-requires-4 c κs = search needs
 -- src/names.rt:38:9
 returns-4 : tie.Need-returns-4
 unfolding lookupOf
-returns-4 c = 
+returns-4 c =
     let c3 = c .before .before .before in
     let c2 = c3 .before .before .before in
     let c1 = c2 .before .before .before in
@@ -88,7 +88,7 @@ is-name-requires-5 c κs = search needs
 -- src/names.rt:41:9
 returns-5 : tie.Need-returns-5
 unfolding lookupOf
-returns-5 c = 
+returns-5 c =
     let c4 = c .before .before .before in
     let c3 = c4 .before .before .before in
     let c2 = c3 .before .before .before in
@@ -106,7 +106,7 @@ is-name-requires-6 c κs = search needs
 -- src/names.rt:44:9
 returns-6 : tie.Need-returns-6
 unfolding lookupOf
-returns-6 c = 
+returns-6 c =
     let c5 = c .before .before .before in
     let c4 = c5 .before .before .before in
     let c3 = c4 .before .before .before in
@@ -125,7 +125,7 @@ is-name-requires-7 c κs = search needs
 -- src/names.rt:47:9
 returns-7 : tie.Need-returns-7
 unfolding lookupOf
-returns-7 c = 
+returns-7 c =
     let c6 = c .before .before .before in
     let c5 = c6 .before .before .before in
     let c4 = c5 .before .before .before in
@@ -145,7 +145,7 @@ is-name-requires-8 c κs = search needs
 -- src/names.rt:50:9
 returns-8 : tie.Need-returns-8
 unfolding lookupOf
-returns-8 c = 
+returns-8 c =
     let c7 = c .before .before .before in
     let c6 = c7 .before .before .before in
     let c5 = c6 .before .before .before in
@@ -166,7 +166,7 @@ is-name-requires-9 c κs = search needs
 -- src/names.rt:53:9
 returns-9 : tie.Need-returns-9
 unfolding lookupOf
-returns-9 c = 
+returns-9 c =
     let c8 = c .before .before .before in
     let c7 = c8 .before .before .before in
     let c6 = c7 .before .before .before in
@@ -188,7 +188,7 @@ is-name-requires-10 c κs = search needs
 -- src/names.rt:56:9
 returns-10 : tie.Need-returns-10
 unfolding lookupOf
-returns-10 c = 
+returns-10 c =
     let c9 = c .before .before .before in
     let c8 = c9 .before .before .before in
     let c7 = c8 .before .before .before in
@@ -203,7 +203,7 @@ returns-10 c =
 -- src/names.rt:25:1
 returns-11 : tie.Need-returns-11
 unfolding lookupOf
-returns-11 c = 
+returns-11 c =
     let c9 = c .before .before .before in
     let c8 = c9 .before .before .before in
     let c7 = c8 .before .before .before in

@@ -5,3 +5,4 @@ pub mod Cases
 pub mod LawsNames
 pub mod LawsParts
 pub mod LawsCustomizing
+pub mod LawsMeta

@@ -1,0 +1,48 @@
+-- An attribute by its reading.
+use Prim.Native.Nat.{ℕ, _+_, _-_, _≤_, _<_}
+use native.Mathlib.Omega.{arith}
+use mathlib.Core.Bool.{Bool, true, false, not, _&&_}
+use mathlib.Core.Path.{_≡_, refl, sym, ap, subst, _∙_}
+use mathlib.Core.List.{List, [], _∷_}
+use Rattle.token.specs.declared.Run.{Run}
+use Rattle.token.specs.Line.{Line, Token, lineOf}
+use Rattle.token.specs.Run.{kept, quoted, unquote, runOf, inRun}
+use Rattle.token.specs.Parts.{all, Part}
+use Rattle.attr_ir.specs.declared.Reading.{Reading}
+use Rattle.attr_ir.specs.declared.Reading.the-variants.{Shorthand, Positional, Named}
+use Rattle.attr_ir.specs.declared.AttrIr.{AttrIr}
+use Rattle.attr_ir.specs.declared.AttrIr.the-variants as ir
+use Rattle.attr_ir.specs.Look.{look}
+use Rattle.attr_ir.specs.Ir.{Ir, positional, shorthand, keyValueIr, irAs, attrIr, runsOf, tokensOf}
+use Rattle.attr_ir.specs.Parts.{InLine, Bounded}
+use Rattle.attr_ir.proofs.Values.{part-in}
+
+module _ (kinds text pairs : List ℕ) (from to : ℕ) (block : Bool) (reading : Reading) (e : reading ≡ look block true false (kept (lineOf kinds text pairs) from to)) where
+  abbrev Answered : AttrIr → Type 0
+  Answered r =
+      (r ≡ runsOf (attrIr block (kept (lineOf kinds text pairs) from to)))
+      × ((tokensOf (lineOf kinds text pairs) r ≡ attrIr block (kept (lineOf kinds text pairs) from to)) × Bounded kinds from to r)
+
+  read-as : (x : Reading) → reading ≡ x → irAs block (kept (lineOf kinds text pairs) from to) x ≡ attrIr block (kept (lineOf kinds text pairs) from to)
+  unfolding attrIr
+  read-as x f = ap (irAs block (kept (lineOf kinds text pairs) from to)) (sym f ∙ e)
+
+  pub ir-shorthand : reading ≡ Shorthand → (r : Run) → ((text pairs : List ℕ) → r ≡ runOf (kept (lineOf kinds text pairs) from to)) → Part all kinds from to r → Answered (ir.Shorthand r)
+  unfolding irAs
+  ir-shorthand f r a p = (
+    ap ir.Shorthand (a text pairs) ∙ ap runsOf (read-as Shorthand f),
+    (ap shorthand (p .same text pairs) ∙ read-as Shorthand f, part-in all kinds from to from to r (omega arith) (omega arith) p),
+  )
+
+  pub ir-positional : (noted : Bool) → reading ≡ Positional noted → (r : Run) → ((text pairs : List ℕ) → r ≡ runOf (unquote (kept (lineOf kinds text pairs) from to))) → Part unquote kinds from to r
+      → (q : Bool) → ((text pairs : List ℕ) → q ≡ quoted (kept (lineOf kinds text pairs) from to)) → (cut : Bool) → cut ≡ (noted && block && not q) → Answered (ir.Positional r cut)
+  unfolding irAs
+  ir-positional noted f r a p q b cut g =
+      let h : cut ≡ (noted && block && not (quoted (kept (lineOf kinds text pairs) from to))) = g ∙ ap (λ (x : Bool). noted && block && not x) (b text pairs) in (
+        rw (a text pairs, h) (ap runsOf (read-as (Positional noted) f)),
+        (rw (p .same text pairs, h) (read-as (Positional noted) f), part-in unquote kinds from to from to r (omega arith) (omega arith) p),
+      )
+
+  pub ir-named : reading ≡ Named → (r : AttrIr) → r ≡ runsOf (keyValueIr (kept (lineOf kinds text pairs) from to)) → tokensOf (lineOf kinds text pairs) r ≡ keyValueIr (kept (lineOf kinds text pairs) from to) → Bounded kinds from to r → Answered r
+  unfolding irAs
+  ir-named f r a b p = (a ∙ ap runsOf (read-as Named f), (b ∙ read-as Named f, p))

@@ -1,0 +1,3 @@
+pub mod Sights
+pub mod Values
+pub mod Irs

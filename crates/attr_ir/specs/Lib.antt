@@ -1,0 +1,3 @@
+pub mod Look
+pub mod Ir
+pub mod Parts

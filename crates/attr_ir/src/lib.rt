@@ -1,0 +1,79 @@
+// What an attribute is: its reading decided from the left, and its runs.
+use token::Run;
+use token::TokenPlace;
+use token::runs::quoted;
+use token::runs::run_of;
+use token::runs::unquote;
+ghost use mathlib.Core.Path.{_≡_};
+ghost use Prim.Native.Nat.{_≤_};
+ghost use lib.ListN.{length};
+ghost use Rattle.token.specs.Line.{lineOf};
+ghost use Rattle.token.specs.LineLaws.{Lent};
+ghost use Rattle.token.specs.Run.{kept};
+ghost use Rattle.attr_ir.specs.Ir.{attrIr, runsOf, tokensOf};
+ghost use Rattle.attr_ir.specs.Parts.{Bounded};
+
+mod look;
+mod naming;
+
+// How an attribute is read; a positional has its note.
+pub enum Reading {
+    Shorthand,
+    Positional(bool),
+    Named,
+}
+
+// What one token decides, looked at from the left: how the attribute is read, or nothing yet, with the note so far.
+pub enum Sight {
+    Is(Reading),
+    On(bool),
+}
+
+// What a name asks for; `Plain` is `subs` or `cols`.
+pub enum Name {
+    Options,
+    Role,
+    Id,
+    Plain,
+    Other,
+}
+
+// An attribute by its runs. `cut` says whether a positional is to be cut.
+pub enum AttrIr {
+    Positional { run: Run, cut: bool },
+    Named { name: Run, value: Run },
+    Plain { name: Run, value: Run },
+    Options(Run),
+    Roles(Run),
+    Id(Run),
+    Shorthand(Run),
+}
+
+// An attribute by its runs, of the tokens kept from `from` up to `to`, which are trimmed; `block` says that the entry is the block entry.
+pub fn attr_ir<'a>(
+    kinds: &'a [u8],
+    text: &'a [u8],
+    pairs: &'a [u32],
+    from: TokenPlace,
+    to: TokenPlace,
+    block: bool,
+) -> AttrIr
+    requires { ⌜ Lent (now kinds) (now text) (now pairs) ⌝ }
+    requires { ⌜ (from .0 ≤ to .0) × (to .0 ≤ length (now kinds)) ⌝ }
+    ensures answer { λ r. ⌜ r ≡ runsOf (attrIr block (kept (lineOf (now (kinds .entry)) (now (text .entry)) (now (pairs .entry))) (from .0) (to .0))) ⌝ }
+    ensures held { λ r. ⌜ tokensOf (lineOf (now (kinds .entry)) (now (text .entry)) (now (pairs .entry))) r ≡ attrIr block (kept (lineOf (now (kinds .entry)) (now (text .entry)) (now (pairs .entry))) (from .0) (to .0)) ⌝ }
+    ensures within { λ r. ⌜ Bounded (now (kinds .entry)) (from .0) (to .0) r ⌝ }
+{
+    let reading = look::look(kinds, text, pairs, from, to, block);
+    match reading {
+        Reading::Shorthand => AttrIr::Shorthand(run_of(kinds, from, to)),
+        Reading::Positional(noted) => {
+            let bare = !quoted(kinds, from, to);
+            AttrIr::Positional {
+                run: unquote(kinds, from, to),
+                cut: look::both(look::both(noted, block), bare),
+            }
+        }
+        Reading::Named => naming::parse_key_value_attr(kinds, text, pairs, from, to),
+    }
+}

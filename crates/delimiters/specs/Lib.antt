@@ -1,0 +1,11 @@
+pub mod Count
+pub mod Delimit
+pub mod Stored
+pub mod Pairs
+pub mod Divide
+pub mod Bench
+pub mod CountLaws
+pub mod StepLaws
+pub mod CommaLaws
+pub mod PairLaws
+pub mod DivideLaws

@@ -1,0 +1,16 @@
+// The tags of rows.
+pub const EMPTY_POSITIONAL: u32 = 1;
+
+pub const POSITIONAL: u32 = 2;
+
+pub const NAMED: u32 = 3;
+
+pub const ID: u32 = 4;
+
+pub const ROLE: u32 = 5;
+
+pub const OPTION: u32 = 6;
+
+pub const DIAGNOSTIC: u32 = 7;
+
+pub const PLAIN: u32 = 8;

@@ -1,0 +1,36 @@
+// What C and Rust link. Each function restates, in its own numbers, the contract of what it calls.
+use token::BlockLine;
+ghost use mathlib.Core.Path.{_≡_};
+ghost use Rattle.token.specs.Line.{lineOf};
+ghost use Rattle.token.specs.Block.{blockLine, refusalOf, yesOf};
+
+// A refusal, 0 for none, and 1 for yes.
+#[repr(C)]
+pub struct TelfjostBool {
+    pub refusal: usize,
+    pub yes: usize,
+}
+
+#[no_mangle]
+pub extern "C" fn telfjost_is_block_attr_list<'a>(
+    kinds: &'a [u8],
+    text: &'a [u8],
+    pairs: &'a [u32],
+) -> TelfjostBool
+    ensures refusal { λ r. ⌜ r .refusal ≡ refusalOf (blockLine (lineOf (now (kinds .entry)) (now (text .entry)) (now (pairs .entry)))) ⌝ }
+    ensures yes { λ r. ⌜ r .yes ≡ yesOf (blockLine (lineOf (now (kinds .entry)) (now (text .entry)) (now (pairs .entry)))) ⌝ }
+{
+    let answer = token::line::is_block_attr_list(kinds, text, pairs);
+    match answer {
+        BlockLine::Refused(number) => TelfjostBool {
+            refusal: number,
+            yes: 0,
+        },
+        BlockLine::Is(yes) => {
+            if yes {
+                return TelfjostBool { refusal: 0, yes: 1 };
+            }
+            TelfjostBool { refusal: 0, yes: 0 }
+        }
+    }
+}

@@ -1,0 +1,147 @@
+-- The loops that take tokens off the ends of some places, and the run of what is left.
+use Prim.Native.Nat.{ℕ, zero, suc, _+_, _-_, _≤_, _<_}
+use native.Mathlib.Omega.{arith}
+use native.Mathlib.Decide.{decLt}
+use mathlib.Core.Bool.{Bool, true, false, cond, not, _&&_, _||_}
+use mathlib.Core.Path.{_≡_, refl, sym, ap, subst, _∙_}
+use mathlib.Core.List.{List, [], _∷_, _++_}
+use lib.Dec.{eqb, ltb}
+use lib.ListN.{length, getD}
+use borrow.Author.Tests.{eq-eqb, ne-eqb, eqb-true, eqb-false, lt-ltb, le-ltb}
+use Rattle.token.specs.declared.Run.{Run}
+use Rattle.token.specs.Kind.{attrRef, doubleQuote, singleQuote, whitespace}
+use Rattle.token.specs.Line.{Line, Token, lineOf, tokenAt}
+use Rattle.token.specs.Run.{kept, trimStart, trimEnd, trim, run, emptyRun, runOf, inRun, between}
+use Rattle.token.specs.Kept.{Ends, is-kind, not-kind, kept-none, kept-first, kept-skip, kept-last, kept-last-skip, trimStart-space, trimStart-stop, trimStart-none, trimEnd-space, trimEnd-stop, trimEnd-none}
+use Rattle.token.specs.Parts.{all, Narrowed, StartsAt, EndsAt, Part, run-here, run-empty}
+
+-- ---- from the left: what is left of from..to at i has the same f
+
+pub record Left (f : List Token → List Token) (kinds : List ℕ) (from to i : ℕ) : Type 0 where
+  pub low : from ≤ i
+  pub high : i ≤ to
+  pub same : (text pairs : List ℕ) → f (kept (lineOf kinds text pairs) i to) ≡ f (kept (lineOf kinds text pairs) from to)
+
+module _ (f : List Token → List Token) (kinds : List ℕ) (from to : ℕ) where
+  pub left-start : from ≤ to → Left f kinds from to from
+  left-start h = record { low = omega arith; high = h; same = λ text pairs. refl }
+
+  pub left-skip : (i : ℕ) → i < to → getD kinds i 0 ≡ attrRef → Left f kinds from to i → Left f kinds from to (i + 1)
+  left-skip i h e w =
+      record { low = omega arith; high = omega arith; same = λ text pairs. ap f (sym (kept-skip (lineOf kinds text pairs) i to h e)) ∙ w .same text pairs }
+
+  pub left-done : (i : ℕ) → ((text pairs : List ℕ) → f (kept (lineOf kinds text pairs) i to) ≡ kept (lineOf kinds text pairs) i to) → (i < to → getD kinds i 0 ≡ attrRef → ⊥) → Left f kinds from to i → StartsAt f kinds from to i
+  left-done i g e w =
+      record { part = record { low = w .low; mid = w .high; high = omega arith; same = λ text pairs. sym (g text pairs) ∙ w .same text pairs }; first = e }
+
+  pub left-end : (i : ℕ) → to ≤ i → f [] ≡ [] → Left f kinds from to i → StartsAt f kinds from to i
+  left-end i h g w = left-done i (λ text pairs. ap f (kept-none (lineOf kinds text pairs) i to h) ∙ g ∙ sym (kept-none (lineOf kinds text pairs) i to h)) (λ lt. absurd (omega arith)) w
+
+module _ (kinds : List ℕ) (from to i : ℕ) (h : i < to) (shut : getD kinds i 0 ≡ attrRef → ⊥) (w : Left trimStart kinds from to i) where
+  pub left-space : getD kinds i 0 ≡ whitespace → Left trimStart kinds from to (i + 1)
+  left-space e =
+      record {
+        low = omega arith;
+        high = omega arith;
+        same = λ text pairs. sym (ap trimStart (kept-first (lineOf kinds text pairs) i to h shut) ∙ trimStart-space _ _ (is-kind (lineOf kinds text pairs) i whitespace e)) ∙ w .same text pairs;
+      }
+
+  pub left-word : (getD kinds i 0 ≡ whitespace → ⊥) → StartsAt trimStart kinds from to i
+  left-word e =
+      left-done trimStart kinds from to i
+      (λ text pairs. ap trimStart (kept-first (lineOf kinds text pairs) i to h shut) ∙ trimStart-stop _ _ (not-kind (lineOf kinds text pairs) i whitespace e) ∙ sym (kept-first (lineOf kinds text pairs) i to h shut))
+      (λ lt. shut) w
+
+-- ---- from the right
+
+pub record Right (f : List Token → List Token) (kinds : List ℕ) (from to i : ℕ) : Type 0 where
+  pub low : from ≤ i
+  pub high : i ≤ to
+  pub same : (text pairs : List ℕ) → f (kept (lineOf kinds text pairs) from i) ≡ f (kept (lineOf kinds text pairs) from to)
+
+module _ (f : List Token → List Token) (kinds : List ℕ) (from to : ℕ) where
+  pub right-start : from ≤ to → Right f kinds from to to
+  right-start h = record { low = h; high = omega arith; same = λ text pairs. refl }
+
+  pub right-skip : (i : ℕ) → from < i → getD kinds (i - 1) 0 ≡ attrRef → Right f kinds from to i → Right f kinds from to (i - 1)
+  right-skip i h e w =
+      record { low = omega arith; high = omega arith; same = λ text pairs. ap f (sym (kept-last-skip (lineOf kinds text pairs) from i h e)) ∙ w .same text pairs }
+
+  pub right-done : (i : ℕ) → ((text pairs : List ℕ) → f (kept (lineOf kinds text pairs) from i) ≡ kept (lineOf kinds text pairs) from i) → (from < i → getD kinds (i - 1) 0 ≡ attrRef → ⊥) → Right f kinds from to i → EndsAt f kinds from to i
+  right-done i g e w =
+      record { part = record { low = omega arith; mid = w .low; high = w .high; same = λ text pairs. sym (g text pairs) ∙ w .same text pairs }; last = e }
+
+  pub right-end : (i : ℕ) → i ≤ from → f [] ≡ [] → Right f kinds from to i → EndsAt f kinds from to i
+  right-end i h g w = right-done i (λ text pairs. ap f (kept-none (lineOf kinds text pairs) from i h) ∙ g ∙ sym (kept-none (lineOf kinds text pairs) from i h)) (λ lt. absurd (omega arith)) w
+
+module _ (kinds : List ℕ) (from to i : ℕ) (h : from < i) (shut : getD kinds (i - 1) 0 ≡ attrRef → ⊥) (w : Right trimEnd kinds from to i) where
+  pub right-space : getD kinds (i - 1) 0 ≡ whitespace → Right trimEnd kinds from to (i - 1)
+  right-space e =
+      record {
+        low = omega arith;
+        high = omega arith;
+        same = λ text pairs. sym (ap trimEnd (kept-last (lineOf kinds text pairs) from i h shut) ∙ trimEnd-space (kept (lineOf kinds text pairs) from (i - 1)) (tokenAt (lineOf kinds text pairs) (i - 1)) (is-kind (lineOf kinds text pairs) (i - 1) whitespace e)) ∙ w .same text pairs;
+      }
+
+  pub right-word : (getD kinds (i - 1) 0 ≡ whitespace → ⊥) → EndsAt trimEnd kinds from to i
+  right-word e =
+      right-done trimEnd kinds from to i
+      (λ text pairs. ap trimEnd (kept-last (lineOf kinds text pairs) from i h shut) ∙ trimEnd-stop (kept (lineOf kinds text pairs) from (i - 1)) (tokenAt (lineOf kinds text pairs) (i - 1)) (not-kind (lineOf kinds text pairs) (i - 1) whitespace e) ∙ sym (kept-last (lineOf kinds text pairs) from i h shut))
+      (λ lt. shut) w
+
+-- ---- both: the run between a and b
+
+between-some : (a b : ℕ) → a < b → between a b ≡ run a (b - a)
+between-some a b h = rw (lt-ltb a b h)
+
+between-none : (a b : ℕ) → b ≤ a → between a b ≡ emptyRun
+between-none a b h = rw (le-ltb a b h)
+
+module _ (f : List Token → List Token) (kinds : List ℕ) (from to a b : ℕ) (w : Narrowed f kinds from to a b) (v : Ends kinds a b) where
+  part-some : a < b → Part f kinds from to (run a (b - a))
+  part-some h =
+      let z : b ≡ a + (b - a) = omega arith in
+      record {
+        within = omega (arith, w .high);
+        few = omega (arith, w .low, w .high);
+        low = λ _. w .low;
+        same = λ text pairs. ap (kept (lineOf kinds text pairs) a) (sym z) ∙ w .same text pairs;
+        ends = subst (λ (n : ℕ). Ends kinds a n) z v;
+      }
+
+  part-none : b ≤ a → Part f kinds from to emptyRun
+  part-none h =
+      record {
+        within = omega arith;
+        few = omega arith;
+        low = λ lt. absurd (omega (arith, lt));
+        same = λ text pairs. kept-none (lineOf kinds text pairs) 0 (0 + 0) (omega arith) ∙ sym (kept-none (lineOf kinds text pairs) a b h) ∙ w .same text pairs;
+        ends = record { first = λ lt. absurd (omega (arith, lt)); last = λ lt. absurd (omega (arith, lt)) };
+      }
+
+  pub part-between : (r : Run) → r ≡ between a b → Part f kinds from to r
+  part-between r e = go (decLt a b)
+    where
+      go : Dec (a < b) → Part f kinds from to r
+      go (yes h) = subst (λ (x : Run). Part f kinds from to x) (sym (e ∙ between-some a b h)) (part-some h)
+      go (no h) = subst (λ (x : Run). Part f kinds from to x) (sym (e ∙ between-none a b (omega arith))) (part-none (omega arith))
+
+  pub run-between-is : (r : Run) → r ≡ between a b → (text pairs : List ℕ) → r ≡ runOf (f (kept (lineOf kinds text pairs) from to))
+  run-between-is r e text pairs = go (decLt a b)
+    where
+      go : Dec (a < b) → r ≡ runOf (f (kept (lineOf kinds text pairs) from to))
+      go (yes h) = e ∙ between-some a b h ∙ run-here (lineOf kinds text pairs) a b v h ∙ ap runOf (w .same text pairs)
+      go (no h) = e ∙ between-none a b (omega arith) ∙ run-empty (lineOf kinds text pairs) a b (omega arith) ∙ ap runOf (w .same text pairs)
+
+pub both-all : (kinds : List ℕ) (from to a b : ℕ) → StartsAt all kinds from to a → EndsAt all kinds a to b → Narrowed all kinds from to a b × Ends kinds a b
+both-all kinds from to a b w v = (
+  record { low = w .part .low; mid = v .part .mid; high = v .part .high; same = λ text pairs. v .part .same text pairs ∙ w .part .same text pairs },
+  record { first = λ h. w .first (omega (arith, v .part .high)); last = v .last },
+)
+
+pub both-trim : (kinds : List ℕ) (from to a b : ℕ) → StartsAt trimStart kinds from to a → EndsAt trimEnd kinds a to b → Narrowed trim kinds from to a b × Ends kinds a b
+unfolding trim
+both-trim kinds from to a b w v = (
+  record { low = w .part .low; mid = v .part .mid; high = v .part .high; same = λ text pairs. v .part .same text pairs ∙ ap trimEnd (w .part .same text pairs) },
+  record { first = λ h. w .first (omega (arith, v .part .high)); last = v .last },
+)

@@ -1,0 +1,89 @@
+-- The line as it is lent, its tokens, and the checks of it (document 01, "The line, the rows, the set", "Where a call is turned away").
+use Prim.Native.Nat.{ℕ, zero, suc, _+_, _-_, _*_}
+use mathlib.Core.Bool.{Bool, true, false, cond, not, _&&_, _||_}
+use mathlib.Core.List.{List, [], _∷_}
+use lib.Dec.{eqb, leb, ltb}
+use lib.ListN.{length, getD, take, drop}
+use Rattle.token.specs.Kind.{largest, backslash, closeBracket, openBracket}
+
+-- "A line is lent as kinds, text bytes, and pairs of byte offset and length, one per token"
+pub record Line : Type 0 where
+  pub kinds : List ℕ
+  pub text : List ℕ
+  pub pairs : List ℕ
+
+abbrev pub lineOf : (kinds text pairs : List ℕ) → Line
+lineOf kinds text pairs = record { kinds = kinds; text = text; pairs = pairs }
+
+-- ---- tokens
+
+-- the byte offset and the length of the token at a place, and its lexeme, the bytes between
+abbrev pub offsetAt : Line → ℕ → ℕ
+offsetAt l p = getD (l .pairs) (2 * p) 0
+
+abbrev pub lengthAt : Line → ℕ → ℕ
+lengthAt l p = getD (l .pairs) (2 * p + 1) 0
+
+abbrev pub lexemeAt : Line → ℕ → List ℕ
+lexemeAt l p = take (lengthAt l p) (drop (offsetAt l p) (l .text))
+
+pub record Token : Type 0 where
+  pub place : ℕ
+  pub kind : ℕ
+  pub lexeme : List ℕ
+
+-- the token at a place
+unfoldable pub tokenAt : Line → ℕ → Token
+tokenAt l p = record { place = p; kind = getD (l .kinds) p 0; lexeme = lexemeAt l p }
+
+-- the n tokens from a place on
+unfoldable pub tokens : Line → ℕ → ℕ → List Token
+tokens l p zero = []
+tokens l p (suc n) = tokenAt l p ∷ tokens l (suc p) n
+
+-- ---- the checks
+
+-- "At most 4,096 tokens and 65,535 bytes"
+abbrev pub mostTokens : ℕ
+mostTokens = 4096
+
+abbrev pub mostBytes : ℕ
+mostBytes = 65535
+
+-- 5: "some kind over 50"
+unfoldable pub someOver : List ℕ → Bool
+someOver [] = false
+someOver (k ∷ ks) = ltb largest k || someOver ks
+
+-- 6: "one starts before the previous ends, or ends past the text": `end` is where the previous one ends
+unfoldable pub misplaced : (size end : ℕ) → List ℕ → Bool
+misplaced size end [] = false
+misplaced size end (o ∷ []) = false
+misplaced size end (o ∷ n ∷ ps) = ltb o end || (ltb size (o + n) || misplaced size (o + n) ps)
+
+-- "Checks run downward; the first that applies is returned": `check t n rest` is n where t says that the check applies
+abbrev pub check : Bool → ℕ → ℕ → ℕ
+check true n rest = n
+check false n rest = rest
+
+-- the number with which a line of at most `most` tokens is refused, 0 where it is not
+unfoldable pub refusal : (most : ℕ) → Line → ℕ
+refusal most l =
+    check (eqb (length (l .kinds)) 0) 1
+    (check (ltb most (length (l .kinds))) 2
+    (check (ltb mostBytes (length (l .text))) 3
+    (check (not (eqb (length (l .pairs)) (2 * length (l .kinds)))) 4
+    (check (someOver (l .kinds)) 5
+    (check (misplaced (length (l .text)) 0 (l .pairs)) 6 0)))))
+
+-- ---- `is_block_attr_list`, of a line that is not refused
+
+-- the kind of the token that is n tokens before the end
+abbrev pub fromEnd : ℕ → List ℕ → ℕ
+fromEnd n kinds = getD kinds (length kinds - n) 0
+
+-- the first token is OpenBracket, the last CloseBracket, the one before the last not Backslash, the second not OpenBracket
+unfoldable pub isBlockAttrList : List ℕ → Bool
+isBlockAttrList kinds =
+    eqb (getD kinds 0 0) openBracket && eqb (fromEnd 1 kinds) closeBracket && not (eqb (fromEnd 2 kinds) backslash)
+    && not (eqb (getD kinds 1 0) openBracket)

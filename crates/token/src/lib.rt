@@ -1,0 +1,23 @@
+// Tokens and runs of tokens of a lent line.
+pub mod kind;
+pub mod line;
+pub mod names;
+pub mod runs;
+
+// A token place: counts tokens.
+pub struct TokenPlace(pub usize);
+
+// A byte offset of a lexeme: counts bytes.
+pub struct ByteOffset(pub usize);
+
+// A run: the place of its first kept token, and how many places there are from it to its last. An empty run is 0, 0.
+pub struct Run {
+    pub place: TokenPlace,
+    pub count: usize,
+}
+
+// Whether a line is a block attribute list, or the number with which it is refused.
+pub enum BlockLine {
+    Refused(usize),
+    Is(bool),
+}

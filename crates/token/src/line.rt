@@ -1,0 +1,138 @@
+// The checks of a line, and what is read of its tokens' lexemes.
+ghost use mathlib.Core.Path.{_≡_};
+ghost use Prim.Native.Nat.{_+_, _*_, _≤_, _<_};
+ghost use lib.ListN.{length, getD};
+ghost use Rattle.token.specs.Line.{lineOf, someOver, misplaced, refusal, isBlockAttrList};
+ghost use Rattle.token.specs.Block.{blockLine};
+use super::BlockLine;
+use super::ByteOffset;
+use super::TokenPlace;
+use super::kind::BACKSLASH;
+use super::kind::CLOSE_BRACKET;
+use super::kind::OPEN_BRACKET;
+use super::kind::WORD;
+
+// The most tokens and the most bytes of a line.
+pub const MOST_TOKENS: usize = 4096;
+
+pub const MOST_BYTES: usize = 65535;
+
+fn wide(x: u32) -> usize
+    ensures { λ r. ⌜ r ≡ x ⌝ }
+{
+    x as usize
+}
+
+// The byte offset of a token's lexeme.
+pub fn offset_of(pairs: &[u32], p: TokenPlace) -> ByteOffset
+    requires { ⌜ 2 * p .0 + 1 < length (now pairs) ⌝ }
+    ensures { λ r. ⌜ r .0 ≡ getD (now (pairs .entry)) (2 * p .0) 0 ⌝ }
+{
+    let at = 2 * p.0;
+    ByteOffset(wide(pairs[at]))
+}
+
+// The length of a token's lexeme, in bytes.
+pub fn length_of(pairs: &[u32], p: TokenPlace) -> usize
+    requires { ⌜ 2 * p .0 + 1 < length (now pairs) ⌝ }
+    ensures { λ r. ⌜ r ≡ getD (now (pairs .entry)) (2 * p .0 + 1) 0 ⌝ }
+{
+    let at = 2 * p.0 + 1;
+    wide(pairs[at])
+}
+
+// Whether some kind is over the largest.
+fn some_over(kinds: &[u8]) -> bool
+    ensures { λ r. ⌜ r ≡ someOver (now (kinds .entry)) ⌝ }
+{
+    let mut i: usize = 0;
+    while i < kinds.len() {
+        if kinds[i] > WORD {
+            return true;
+        }
+        i += 1;
+    }
+    false
+}
+
+// Whether some token starts before the previous ends, or ends past a text of `size` bytes.
+fn some_misplaced(pairs: &[u32], tokens: usize, size: usize) -> bool
+    requires { ⌜ length (now pairs) ≡ 2 * tokens ⌝ }
+    ensures { λ r. ⌜ r ≡ misplaced size 0 (now (pairs .entry)) ⌝ }
+{
+    let mut i: usize = 0;
+    let mut end: usize = 0;
+    while i < tokens {
+        let start = offset_of(pairs, TokenPlace(i));
+        let next = start.0 + length_of(pairs, TokenPlace(i));
+        if start.0 < end {
+            return true;
+        }
+        if size < next {
+            return true;
+        }
+        end = next;
+        i += 1;
+    }
+    false
+}
+
+// The number with which a line of at most `most` tokens is refused, 0 where it is not.
+pub fn line_refusal<'a>(kinds: &'a [u8], text: &'a [u8], pairs: &'a [u32], most: usize) -> usize
+    ensures { λ r. ⌜ r ≡ refusal most (lineOf (now (kinds .entry)) (now (text .entry)) (now (pairs .entry))) ⌝ }
+{
+    let tokens = kinds.len();
+    if tokens == 0 {
+        return 1;
+    }
+    if tokens > most {
+        return 2;
+    }
+    if text.len() > MOST_BYTES {
+        return 3;
+    }
+    if pairs.len() < tokens {
+        return 4;
+    }
+    if pairs.len() - tokens != tokens {
+        return 4;
+    }
+    if some_over(kinds) {
+        return 5;
+    }
+    if some_misplaced(pairs, tokens, text.len()) {
+        return 6;
+    }
+    0
+}
+
+// Whether the kinds of a line are those of a block attribute list.
+fn bracketed(kinds: &[u8]) -> bool
+    ensures { λ r. ⌜ r ≡ isBlockAttrList (now (kinds .entry)) ⌝ }
+{
+    let tokens = kinds.len();
+    if tokens < 2 {
+        return false;
+    }
+    if kinds[0] != OPEN_BRACKET {
+        return false;
+    }
+    if kinds[tokens - 1] != CLOSE_BRACKET {
+        return false;
+    }
+    if kinds[tokens - 2] == BACKSLASH {
+        return false;
+    }
+    kinds[1] != OPEN_BRACKET
+}
+
+// Whether a line is a block attribute list; here its text begins with the opening bracket.
+pub fn is_block_attr_list<'a>(kinds: &'a [u8], text: &'a [u8], pairs: &'a [u32]) -> BlockLine
+    ensures { λ r. ⌜ r ≡ blockLine (lineOf (now (kinds .entry)) (now (text .entry)) (now (pairs .entry))) ⌝ }
+{
+    let refused = line_refusal(kinds, text, pairs, MOST_TOKENS);
+    if refused != 0 {
+        return BlockLine::Refused(refused);
+    }
+    BlockLine::Is(bracketed(kinds))
+}

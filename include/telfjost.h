@@ -1,0 +1,59 @@
+/*
+ * Telfjost: a proved reader of AsciiDoc attribute lines.
+ *
+ * Link with target/staticlib/libtelfjost.a (`rt staticlib telfjost`), x86-64 Linux.
+ *
+ * Every function returns on every input, allocates nothing, keeps no state between calls and
+ * may be called from any number of threads at once. What C must see to:
+ *   - a pointer points to at least as many elements as the length behind it says, aligned as
+ *     its type asks; where the length is 0 the pointer is not read and may be NULL;
+ *   - nothing else writes to what is lent while the call runs, and a buffer that a function
+ *     writes to overlaps nothing else that is lent.
+ *
+ * A line of tokens is lent as three arrays:
+ *   kinds  one number for each token, 0 to 50, in the order of the Rust's TokenKind
+ *          (AttrRef 3, Backslash 5, CloseBracket 10, Comma 13, DoubleQuote 19, Dots 20,
+ *          EqualSigns 23, Hash 27, OpenBracket 34, Percent 36, SingleQuote 43,
+ *          Whitespace 49, Word 50);
+ *   text   the bytes of the line;
+ *   pairs  two numbers for each token, the byte at which its text starts in `text` and its
+ *          length in bytes; sorted, not overlapping, gaps allowed.
+ *
+ * A refusal is 0 where a call is answered, else the first of these that applies:
+ *   1  no tokens
+ *   2  over 4,096 tokens
+ *   3  the text is over 65,535 bytes
+ *   4  not two numbers in `pairs` for each kind
+ *   5  some kind is over 50
+ *   6  a pair starts before the previous one ends, or ends past the text
+ */
+#ifndef TELFJOST_H
+#define TELFJOST_H
+
+#include <stddef.h>
+#include <stdint.h>
+
+#ifdef __cplusplus
+extern "C" {
+#endif
+
+/* Yes or no. */
+typedef struct {
+    size_t refusal; /* 0, or 1 to 6; then `yes` is 0 */
+    size_t yes;     /* 1 for yes, 0 for no */
+} telfjost_bool;
+
+/*
+ * Is the line a block attribute list? The line begins with its opening bracket. Yes exactly
+ * when the first token is OpenBracket, the last is CloseBracket, the one before the last is
+ * not Backslash and the second is not OpenBracket; so `[]` is one, and a single token is none.
+ */
+telfjost_bool telfjost_is_block_attr_list(const uint8_t *kinds, size_t kinds_len,
+                                          const uint8_t *text, size_t text_len,
+                                          const uint32_t *pairs, size_t pairs_len);
+
+#ifdef __cplusplus
+}
+#endif
+
+#endif

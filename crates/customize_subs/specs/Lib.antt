@@ -2,7 +2,7 @@ pub mod Names
 pub mod Parts
 pub mod Customizing
 pub mod Cases
-pub mod LawsNames
-pub mod LawsParts
-pub mod LawsCustomizing
-pub mod LawsMeta
+pub mod NamesLaws
+pub mod PartsLaws
+pub mod CustomizingLaws
+pub mod MetaLaws

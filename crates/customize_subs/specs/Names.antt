@@ -3,7 +3,6 @@ use Prim.Native.Nat.{ℕ}
 use mathlib.Core.Bool.{Bool, true, false, cond, _&&_}
 use mathlib.Core.List.{List, [], _∷_}
 use lib.Dec.{eqb}
-use Rattle.customize_subs.specs.declared.StepOrGroup.{StepOrGroup}
 use Rattle.customize_subs.specs.declared.StepOrGroup.the-variants.{None, Normal, Verbatim, SpecialChars, Callouts, Quotes, Attributes, Replacements, Macros, PostReplacements}
 use Rattle.customize_subs.specs.declared.Lookup.{Lookup}
 use Rattle.customize_subs.specs.declared.Lookup.the-variants.{Found, Unknown}

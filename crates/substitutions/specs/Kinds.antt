@@ -1,6 +1,6 @@
 -- The seven kinds, their numbers and their flags.
 use Prim.Native.Nat.{ℕ, zero, suc, _+_, _-_, _/_, _%_, _^_}
-use mathlib.Core.Bool.{Bool, true, false, cond, _&&_}
+use mathlib.Core.Bool.{Bool, true, false, _&&_}
 use lib.Dec.{eqb}
 use Rattle.substitutions.specs.declared.Subs.{Subs}
 use Rattle.substitutions.specs.declared.Subs.the-variants.{SpecialChars, InlineFormatting, AttrRefs, CharReplacement, Macros, PostReplacement, Callouts}

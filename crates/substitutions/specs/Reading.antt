@@ -1,4 +1,4 @@
--- Held and sound said place by place, in words that know nothing of how they are decided. `LawsReading` shows that `held`
+-- Held and sound said place by place, in words that know nothing of how they are decided. `ReadingLaws` shows that `held`
 -- and `sound` are true of exactly these sets.
 use Prim.Native.Nat.{ℕ, _≤_, _<_}
 use mathlib.Core.Path.{_≡_}

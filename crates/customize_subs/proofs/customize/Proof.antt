@@ -1,29 +1,19 @@
+-- `customize` goes through the parts. The loop's invariant: the set is held, and the parts still to come make of it what all
+-- parts make of the set at the start. Assumes nothing.
 use borrow.Author.Needs.{needs}
-use Prim.Native.Nat.{ℕ, zero, suc, _+_, _*_, _-_, _≤_, _<_}
+use Prim.Native.Nat.{_+_, _-_, _≤_}
 use native.Mathlib.Omega.{arith}
-use native.Mathlib.Numerals.{add-one}
-use mathlib.Core.Bool.{Bool, true, false, cond, not, _&&_, _||_}
-use mathlib.Core.Path.{_≡_, refl, sym, ap, subst, _∙_}
-use mathlib.Core.Logic.{⊎-elim}
-use mathlib.Core.List.{List, [], _∷_, _++_}
-use lib.Dec.{eqb}
-use lib.ListN.{length, getD, take, drop, set, length-set}
-use borrow.Author.Tests.{eq-eqb, ne-eqb, lt-ltb, le-ltb, le-leb, lt-leb}
+use mathlib.Core.Bool.{true}
+use mathlib.Core.Path.{_≡_, refl, sym, ap, _∙_}
+use lib.ListN.{length, set}
 use Rattle.substitutions.specs.Held.{held}
 use Rattle.customize_subs.specs.declared.Lookup.the-variants.{Found, Unknown}
 use Rattle.customize_subs.specs.Parts.{split}
 use Rattle.customize_subs.specs.Customizing.{through}
-use Rattle.customize_subs.specs.LawsParts.{between, partsFrom, parts-all}
-use Rattle.customize_subs.specs.LawsCustomizing.{turn-short, turn-name, turns-over}
+use Rattle.customize_subs.specs.PartsLaws.{between, partsFrom, parts-all}
+use Rattle.customize_subs.specs.CustomizingLaws.{turn-short, turn-name, turns-over}
 use Rattle.customize_subs.proofs.customize.Statement.{statement}
 use Rattle.customize_subs.proofs.customize.Tie as tie
-use Rattle.customize_subs.proofs.customize.Reads as reads
-use Rattle.customize_subs.proofs.customize.Lts as lts
-use Rattle.customize_subs.proofs.names.look_up_in.Reads as look-up-in-reads
-use Rattle.customize_subs.proofs.parts.name_at.Reads as name-at-reads
-use Rattle.customize_subs.proofs.parts.next_comma.Reads as next-comma-reads
-use Rattle.customize_subs.proofs.parts.part_at.Reads as part-at-reads
-use Rattle.customize_subs.proofs.steps.enter.Reads as enter-reads
 
 abbrev Inv-loop : tie.InvT-loop
 Inv-loop mode text next₀ start₀ next start = (start ≤ length text + 1) × ((held next ≡ true) × (through mode next (partsFrom start text) ≡ through mode next₀ (split text)))
@@ -31,33 +21,26 @@ Inv-loop mode text next₀ start₀ next start = (start ≤ length text + 1) × 
 abbrev μ-loop : tie.MeasureT-loop
 μ-loop mode text next₀ start₀ next start = length text + 1 - start
 
--- src/lib.rt:64:5
 loop-holds : tie.Need-loop-holds Inv-loop μ-loop
 loop-holds c =
     let a = c .before .args in
     (omega arith, (c .before .pre .0, ap (through (a .mode) (a .set)) (parts-all (a .text .now))))
 
--- src/lib.rt:66:13
 next-comma-requires : tie.Need-next-comma-requires Inv-loop μ-loop
 next-comma-requires c κs = search needs
 
--- src/lib.rt:67:17
 add-start : tie.Need-add-start Inv-loop μ-loop
 add-start c = omega arith
 
--- src/lib.rt:68:13
 part-at-requires : tie.Need-part-at-requires Inv-loop μ-loop
 part-at-requires c κs = search needs
 
--- src/lib.rt:69:12
 sub-if1 : tie.Need-sub-if1 Inv-loop μ-loop
 sub-if1 c = omega arith
 
--- src/lib.rt:64:5
 loop-less : tie.Need-loop-less Inv-loop μ-loop
 loop-less c = omega arith
 
--- src/lib.rt:64:5
 loop-again : tie.Need-loop-again Inv-loop μ-loop
 loop-again c =
     let p = c .before .before .part-at in
@@ -67,27 +50,21 @@ loop-again c =
     let t = a .text .now in
     (omega arith, (l .inv .1 .0, turn-short (a .mode) (l .next) t (l .start) (k .result) (omega arith) (k .ensures .0) (p .result .start) (p .result .end) (omega arith) (p .ensures .0) (c .if1 .taken) ∙ l .inv .1 .1))
 
--- src/lib.rt:72:13
 name-at-requires : tie.Need-name-at-requires Inv-loop μ-loop
 name-at-requires c κs = search needs
 
--- src/lib.rt:74:35
 look-up-in-requires : tie.Need-look-up-in-requires Inv-loop μ-loop
 look-up-in-requires c κs = search needs
 
--- src/lib.rt:74:27
 enum-known-step : tie.Need-enum-known-step Inv-loop μ-loop
 enum-known-step c = search needs
 
--- src/lib.rt:75:13
 enum-told : tie.Need-enum-told Inv-loop μ-loop
 enum-told c = search needs
 
--- src/lib.rt:64:5
 loop-less-2 : tie.Need-loop-less-2 Inv-loop μ-loop
 loop-less-2 c = omega arith
 
--- src/lib.rt:64:5
 loop-again-2 : tie.Need-loop-again-2 Inv-loop μ-loop
 unfolding between
 loop-again-2 c =
@@ -106,15 +83,12 @@ loop-again-2 c =
       ),
     )
 
--- src/lib.rt:77:9
 enter-requires : tie.Need-enter-requires Inv-loop μ-loop
 enter-requires c κs = search needs
 
--- src/lib.rt:64:5
 loop-less-3 : tie.Need-loop-less-3 Inv-loop μ-loop
 loop-less-3 c = omega arith
 
--- src/lib.rt:64:5
 loop-again-3 : tie.Need-loop-again-3 Inv-loop μ-loop
 unfolding between
 loop-again-3 c =
@@ -133,7 +107,6 @@ loop-again-3 c =
       ),
     )
 
--- src/lib.rt:57:1
 returns : tie.Need-returns Inv-loop μ-loop
 returns c =
     let l = c .before .loop in

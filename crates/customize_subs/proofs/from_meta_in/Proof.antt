@@ -1,31 +1,19 @@
+-- `from_meta_in` refuses with the set given, or gives the set given where there is no subs attribute, or what the parts make
+-- of the starting set. Assumes nothing.
 use borrow.Author.Needs.{needs}
-use Prim.Native.Nat.{ℕ, zero, suc, _+_, _*_, _-_, _≤_, _<_}
-use native.Mathlib.Omega.{arith}
-use native.Mathlib.Numerals.{add-one}
-use mathlib.Core.Bool.{Bool, true, false, cond, not, _&&_, _||_}
-use mathlib.Core.Path.{_≡_, refl, sym, ap, subst, _∙_}
-use mathlib.Core.Logic.{⊎-elim}
-use mathlib.Core.List.{List, [], _∷_, _++_}
-use lib.Dec.{eqb}
-use lib.ListN.{length, getD, take, drop, set, length-set}
-use borrow.Author.Tests.{eq-eqb, ne-eqb, lt-ltb, le-ltb, le-leb, lt-leb}
+use Prim.Native.Nat.{_-_}
+use mathlib.Core.Path.{sym, _∙_}
+use lib.ListN.{set}
 use borrow.Author.Tests.{not-true, not-false}
-use Rattle.substitutions.specs.LawsAnswers.{accepted, refused, moved-to}
+use Rattle.substitutions.specs.AnswersLaws.{accepted, refused, moved-to}
 use Rattle.customize_subs.specs.Customizing.{metaOf, metaRefusal, metaAnswer}
-use Rattle.customize_subs.specs.LawsCustomizing.{set-accepted, short-text, meta-absent, meta-present}
+use Rattle.customize_subs.specs.CustomizingLaws.{set-accepted, short-text, meta-absent, meta-present}
 use Rattle.customize_subs.proofs.from_meta_in.Statement.{statement}
 use Rattle.customize_subs.proofs.from_meta_in.Tie as tie
-use Rattle.customize_subs.proofs.from_meta_in.Reads as reads
-use Rattle.customize_subs.proofs.from_meta_in.Lts as lts
-use Rattle.customize_subs.proofs.customize.Reads as customize-reads
-use Rattle.customize_subs.proofs.refusal.Reads as refusal-reads
-use Rattle.customize_subs.proofs.start_of.Reads as start-of-reads
 
--- src/lib.rt:98:9
 refusal-requires : tie.Need-refusal-requires
 refusal-requires c κs = search needs
 
--- src/lib.rt:100:9
 returns : tie.Need-returns
 unfolding metaAnswer
 returns c =
@@ -33,7 +21,6 @@ returns c =
     let t = a .text .now in
     refused (c .before .refusal .result) (metaRefusal (a .mode) (a .set) (a .present) t) (a .set) (metaOf (a .mode) (a .set) (a .present) t) (c .before .refusal .ensures) (c .if1 .taken)
 
--- src/lib.rt:103:9
 returns-2 : tie.Need-returns-2
 unfolding metaAnswer
 returns-2 c =
@@ -42,21 +29,18 @@ returns-2 c =
     moved-to (metaRefusal (a .mode) (a .set) (a .present) t) (a .set) (a .set) (metaOf (a .mode) (a .set) (a .present) t) (sym (c .before .before .refusal .ensures) ∙ c .before .if1 .left)
     (meta-absent (a .mode) (a .set) t (a .present) (not-true (a .present) (c .if2 .taken)))
 
--- src/lib.rt:105:9
 start-of-requires : tie.Need-start-of-requires
 start-of-requires c κs =
     let a = c .before .before .before .before .args in
     let t = a .text .now in
     accepted (a .mode) (a .set) (set-accepted (a .mode) (a .set) t (a .present) (sym (c .before .before .refusal .ensures) ∙ c .before .if1 .left))
 
--- src/lib.rt:108:14
 customize-requires : tie.Need-customize-requires
 customize-requires c κs =
     let a = c .before .before .before .before .before .args in
     let t = a .text .now in
     (c .start-of .ensures .1, short-text (a .mode) (a .set) t (a .present) (not-false (a .present) (c .before .if2 .left)) (sym (c .before .before .before .refusal .ensures) ∙ c .before .before .if1 .left))
 
--- src/lib.rt:95:1
 returns-3 : tie.Need-returns-3
 unfolding metaAnswer
 returns-3 c =

@@ -1,52 +1,34 @@
+-- `prepend_held` is the definition's prepend, by the flag that was tested and the places that were pushed, and the set stays held. Assumes nothing.
 use borrow.Author.Needs.{needs}
-use Prim.Native.Nat.{ℕ, zero, suc, _+_, _*_, _-_, _≤_, _<_}
+use Prim.Native.Nat.{_-_}
 use native.Mathlib.Omega.{arith}
-use native.Mathlib.Numerals.{add-one}
-use mathlib.Core.Bool.{Bool, true, false, cond, not, _&&_, _||_}
-use mathlib.Core.Path.{_≡_, refl, sym, ap, subst, _∙_}
-use mathlib.Core.Logic.{⊎-elim}
-use mathlib.Core.List.{List, [], _∷_, _++_}
-use lib.Dec.{eqb}
-use lib.ListN.{length, getD, take, drop, set, length-set}
-use borrow.Author.Tests.{eq-eqb, ne-eqb, lt-ltb, le-ltb, le-leb, lt-leb}
-use Rattle.substitutions.specs.LawsAnswers.{prepend-flagged, prepend-new, held-clear}
+use mathlib.Core.Path.{sym, _∙_}
+use lib.ListN.{set}
+use Rattle.substitutions.specs.AnswersLaws.{prepend-flagged, prepend-new, held-clear}
 use Rattle.substitutions.proofs.prepend_held.Statement.{statement}
 use Rattle.substitutions.proofs.prepend_held.Tie as tie
-use Rattle.substitutions.proofs.prepend_held.Reads as reads
-use Rattle.substitutions.proofs.prepend_held.Lts as lts
-use Rattle.substitutions.proofs.flags.flag_of.Reads as flag-of-reads
-use Rattle.substitutions.proofs.flags.is_flagged.Reads as is-flagged-reads
-use Rattle.substitutions.proofs.number.Reads as number-reads
-use Rattle.substitutions.proofs.places.lead.Reads as lead-reads
 
--- src/lib.rt:162:9
 number-requires : tie.Need-number-requires
 number-requires c κs = search needs
 
--- src/lib.rt:165:9
 lead-requires : tie.Need-lead-requires
 lead-requires c κs = search needs
 
--- src/lib.rt:166:8
 is-flagged-requires : tie.Need-is-flagged-requires
 is-flagged-requires c κs = search needs
 
--- src/lib.rt:167:9
 returns : tie.Need-returns
 returns c =
     let a = c .before .before .before .before .before .args in
     let k = c .before .before .before .before .number in
     prepend-flagged (a .set) (k .result) _ (k .ensures .0) (k .ensures .1 .0) (k .ensures .1 .1) (c .before .before .before .before .before .pre) _ (sym (c .before .is-flagged .ensures) ∙ c .if1 .taken) (c .before .before .lead .ensures)
 
--- src/lib.rt:171:24
 flag-of-requires : tie.Need-flag-of-requires
 flag-of-requires c κs = search needs
 
--- src/lib.rt:171:16
 add-t9 : tie.Need-add-t9
 add-t9 c = omega (arith, held-clear (c .before .before .before .before .before .before .args .set) (c .before .before .before .before .before .before .pre))
 
--- src/lib.rt:157:1
 returns-2 : tie.Need-returns-2
 returns-2 c =
     let a = c .before .before .before .before .before .before .args in

@@ -1,42 +1,28 @@
+-- `prepend_in` refuses with the set given or gives what prepend gives. A set that is not refused is held. Assumes nothing.
 use borrow.Author.Needs.{needs}
-use Prim.Native.Nat.{ℕ, zero, suc, _+_, _*_, _-_, _≤_, _<_}
-use native.Mathlib.Omega.{arith}
-use native.Mathlib.Numerals.{add-one}
-use mathlib.Core.Bool.{Bool, true, false, cond, not, _&&_, _||_}
-use mathlib.Core.Path.{_≡_, refl, sym, ap, subst, _∙_}
-use mathlib.Core.Logic.{⊎-elim}
-use mathlib.Core.List.{List, [], _∷_, _++_}
-use lib.Dec.{eqb}
-use lib.ListN.{length, getD, take, drop, set, length-set}
-use borrow.Author.Tests.{eq-eqb, ne-eqb, lt-ltb, le-ltb, le-leb, lt-leb}
+use Prim.Native.Nat.{_-_}
+use mathlib.Core.Path.{sym, _∙_}
+use lib.ListN.{set}
 use Rattle.substitutions.specs.Kinds.{numberOf}
-use Rattle.substitutions.specs.Moves.{room, prependOf, refusalOf, prependAnswer}
-use Rattle.substitutions.specs.LawsAnswers.{accepted, refused, moved-to}
+use Rattle.substitutions.specs.Moves.{prependOf, refusalOf, prependAnswer}
+use Rattle.substitutions.specs.AnswersLaws.{accepted, refused, moved-to}
 use Rattle.substitutions.proofs.prepend_in.Statement.{statement}
 use Rattle.substitutions.proofs.prepend_in.Tie as tie
-use Rattle.substitutions.proofs.prepend_in.Reads as reads
-use Rattle.substitutions.proofs.prepend_in.Lts as lts
-use Rattle.substitutions.proofs.prepend_held.Reads as prepend-held-reads
-use Rattle.substitutions.proofs.refusal.Reads as refusal-reads
 
--- src/lib.rt:204:9
 refusal-requires : tie.Need-refusal-requires
 refusal-requires c κs = search needs
 
--- src/lib.rt:206:9
 returns : tie.Need-returns
 unfolding prependAnswer
 returns c =
     let a = c .before .before .args in
     refused (c .before .refusal .result) (refusalOf (a .mode) (a .set)) (a .set) (prependOf (numberOf (a .sub)) (a .set)) (c .before .refusal .ensures) (c .if1 .taken)
 
--- src/lib.rt:210:14
 prepend-held-requires : tie.Need-prepend-held-requires
 prepend-held-requires c κs =
     let a = c .before .before .args in
     accepted (a .mode) (a .set) (sym (c .before .refusal .ensures) ∙ c .if1 .left)
 
--- src/lib.rt:201:1
 returns-2 : tie.Need-returns-2
 unfolding prependAnswer
 returns-2 c =

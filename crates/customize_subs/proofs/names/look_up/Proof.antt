@@ -1,58 +1,39 @@
+-- `look_up` gives the first name of the list that is the same, by the tests that failed before it. Assumes nothing.
 use borrow.Author.Needs.{needs}
-use Prim.Native.Nat.{ℕ, zero, suc, _+_, _*_, _-_, _≤_, _<_}
-use native.Mathlib.Omega.{arith}
-use native.Mathlib.Numerals.{add-one}
-use mathlib.Core.Bool.{Bool, true, false, cond, not, _&&_, _||_}
-use mathlib.Core.Path.{_≡_, refl, sym, ap, subst, _∙_}
-use mathlib.Core.Logic.{⊎-elim}
-use mathlib.Core.List.{List, [], _∷_, _++_}
-use lib.Dec.{eqb}
-use lib.ListN.{length, getD, take, drop, set, length-set}
-use borrow.Author.Tests.{eq-eqb, ne-eqb, lt-ltb, le-ltb, le-leb, lt-leb}
+use Prim.Native.Nat.{_-_}
+use mathlib.Core.Path.{sym, _∙_}
 use Rattle.customize_subs.specs.Names.{lookupOf}
 use Rattle.customize_subs.proofs.names.look_up.Statement.{statement}
 use Rattle.customize_subs.proofs.names.look_up.Tie as tie
-use Rattle.customize_subs.proofs.names.look_up.Reads as reads
-use Rattle.customize_subs.proofs.names.look_up.Lts as lts
-use Rattle.customize_subs.proofs.names.is_name.Reads as is-name-reads
 
--- src/names.rt:28:22
 slice-aggregate-is-name : tie.Need-slice-aggregate-is-name
 slice-aggregate-is-name c = search needs
 
--- src/names.rt:28:8
 is-name-requires : tie.Need-is-name-requires
 is-name-requires c κs = search needs
 
--- src/names.rt:29:9
 returns : tie.Need-returns
 unfolding lookupOf
 returns c = rw (sym (c .before .is-name .ensures) ∙ c .if1 .taken)
 
--- src/names.rt:31:22
 slice-aggregate-is-name-2 : tie.Need-slice-aggregate-is-name-2
 slice-aggregate-is-name-2 c = search needs
 
--- src/names.rt:31:8
 is-name-requires-2 : tie.Need-is-name-requires-2
 is-name-requires-2 c κs = search needs
 
--- src/names.rt:32:9
 returns-2 : tie.Need-returns-2
 unfolding lookupOf
 returns-2 c =
     let c1 = c .before .before .before in
     rw (sym (c1 .before .is-name .ensures) ∙ c1 .if1 .left, sym (c .before .is-name2 .ensures) ∙ c .if2 .taken)
 
--- src/names.rt:34:22
 slice-aggregate-is-name-3 : tie.Need-slice-aggregate-is-name-3
 slice-aggregate-is-name-3 c = search needs
 
--- src/names.rt:34:8
 is-name-requires-3 : tie.Need-is-name-requires-3
 is-name-requires-3 c κs = search needs
 
--- src/names.rt:35:9
 returns-3 : tie.Need-returns-3
 unfolding lookupOf
 returns-3 c =
@@ -60,15 +41,12 @@ returns-3 c =
     let c1 = c2 .before .before .before in
     rw (sym (c1 .before .is-name .ensures) ∙ c1 .if1 .left, sym (c2 .before .is-name2 .ensures) ∙ c2 .if2 .left, sym (c .before .is-name3 .ensures) ∙ c .if3 .taken)
 
--- src/names.rt:37:22
 slice-aggregate-is-name-4 : tie.Need-slice-aggregate-is-name-4
 slice-aggregate-is-name-4 c = search needs
 
--- src/names.rt:37:8
 is-name-requires-4 : tie.Need-is-name-requires-4
 is-name-requires-4 c κs = search needs
 
--- src/names.rt:38:9
 returns-4 : tie.Need-returns-4
 unfolding lookupOf
 returns-4 c =
@@ -77,15 +55,12 @@ returns-4 c =
     let c1 = c2 .before .before .before in
     rw (sym (c1 .before .is-name .ensures) ∙ c1 .if1 .left, sym (c2 .before .is-name2 .ensures) ∙ c2 .if2 .left, sym (c3 .before .is-name3 .ensures) ∙ c3 .if3 .left, sym (c .before .is-name4 .ensures) ∙ c .if4 .taken)
 
--- src/names.rt:40:22
 slice-aggregate-is-name-5 : tie.Need-slice-aggregate-is-name-5
 slice-aggregate-is-name-5 c = search needs
 
--- src/names.rt:40:8
 is-name-requires-5 : tie.Need-is-name-requires-5
 is-name-requires-5 c κs = search needs
 
--- src/names.rt:41:9
 returns-5 : tie.Need-returns-5
 unfolding lookupOf
 returns-5 c =
@@ -95,15 +70,12 @@ returns-5 c =
     let c1 = c2 .before .before .before in
     rw (sym (c1 .before .is-name .ensures) ∙ c1 .if1 .left, sym (c2 .before .is-name2 .ensures) ∙ c2 .if2 .left, sym (c3 .before .is-name3 .ensures) ∙ c3 .if3 .left, sym (c4 .before .is-name4 .ensures) ∙ c4 .if4 .left, sym (c .before .is-name5 .ensures) ∙ c .if5 .taken)
 
--- src/names.rt:43:22
 slice-aggregate-is-name-6 : tie.Need-slice-aggregate-is-name-6
 slice-aggregate-is-name-6 c = search needs
 
--- src/names.rt:43:8
 is-name-requires-6 : tie.Need-is-name-requires-6
 is-name-requires-6 c κs = search needs
 
--- src/names.rt:44:9
 returns-6 : tie.Need-returns-6
 unfolding lookupOf
 returns-6 c =
@@ -114,15 +86,12 @@ returns-6 c =
     let c1 = c2 .before .before .before in
     rw (sym (c1 .before .is-name .ensures) ∙ c1 .if1 .left, sym (c2 .before .is-name2 .ensures) ∙ c2 .if2 .left, sym (c3 .before .is-name3 .ensures) ∙ c3 .if3 .left, sym (c4 .before .is-name4 .ensures) ∙ c4 .if4 .left, sym (c5 .before .is-name5 .ensures) ∙ c5 .if5 .left, sym (c .before .is-name6 .ensures) ∙ c .if6 .taken)
 
--- src/names.rt:46:22
 slice-aggregate-is-name-7 : tie.Need-slice-aggregate-is-name-7
 slice-aggregate-is-name-7 c = search needs
 
--- src/names.rt:46:8
 is-name-requires-7 : tie.Need-is-name-requires-7
 is-name-requires-7 c κs = search needs
 
--- src/names.rt:47:9
 returns-7 : tie.Need-returns-7
 unfolding lookupOf
 returns-7 c =
@@ -134,15 +103,12 @@ returns-7 c =
     let c1 = c2 .before .before .before in
     rw (sym (c1 .before .is-name .ensures) ∙ c1 .if1 .left, sym (c2 .before .is-name2 .ensures) ∙ c2 .if2 .left, sym (c3 .before .is-name3 .ensures) ∙ c3 .if3 .left, sym (c4 .before .is-name4 .ensures) ∙ c4 .if4 .left, sym (c5 .before .is-name5 .ensures) ∙ c5 .if5 .left, sym (c6 .before .is-name6 .ensures) ∙ c6 .if6 .left, sym (c .before .is-name7 .ensures) ∙ c .if7 .taken)
 
--- src/names.rt:49:22
 slice-aggregate-is-name-8 : tie.Need-slice-aggregate-is-name-8
 slice-aggregate-is-name-8 c = search needs
 
--- src/names.rt:49:8
 is-name-requires-8 : tie.Need-is-name-requires-8
 is-name-requires-8 c κs = search needs
 
--- src/names.rt:50:9
 returns-8 : tie.Need-returns-8
 unfolding lookupOf
 returns-8 c =
@@ -155,15 +121,12 @@ returns-8 c =
     let c1 = c2 .before .before .before in
     rw (sym (c1 .before .is-name .ensures) ∙ c1 .if1 .left, sym (c2 .before .is-name2 .ensures) ∙ c2 .if2 .left, sym (c3 .before .is-name3 .ensures) ∙ c3 .if3 .left, sym (c4 .before .is-name4 .ensures) ∙ c4 .if4 .left, sym (c5 .before .is-name5 .ensures) ∙ c5 .if5 .left, sym (c6 .before .is-name6 .ensures) ∙ c6 .if6 .left, sym (c7 .before .is-name7 .ensures) ∙ c7 .if7 .left, sym (c .before .is-name8 .ensures) ∙ c .if8 .taken)
 
--- src/names.rt:52:22
 slice-aggregate-is-name-9 : tie.Need-slice-aggregate-is-name-9
 slice-aggregate-is-name-9 c = search needs
 
--- src/names.rt:52:8
 is-name-requires-9 : tie.Need-is-name-requires-9
 is-name-requires-9 c κs = search needs
 
--- src/names.rt:53:9
 returns-9 : tie.Need-returns-9
 unfolding lookupOf
 returns-9 c =
@@ -177,15 +140,12 @@ returns-9 c =
     let c1 = c2 .before .before .before in
     rw (sym (c1 .before .is-name .ensures) ∙ c1 .if1 .left, sym (c2 .before .is-name2 .ensures) ∙ c2 .if2 .left, sym (c3 .before .is-name3 .ensures) ∙ c3 .if3 .left, sym (c4 .before .is-name4 .ensures) ∙ c4 .if4 .left, sym (c5 .before .is-name5 .ensures) ∙ c5 .if5 .left, sym (c6 .before .is-name6 .ensures) ∙ c6 .if6 .left, sym (c7 .before .is-name7 .ensures) ∙ c7 .if7 .left, sym (c8 .before .is-name8 .ensures) ∙ c8 .if8 .left, sym (c .before .is-name9 .ensures) ∙ c .if9 .taken)
 
--- src/names.rt:55:22
 slice-aggregate-is-name-10 : tie.Need-slice-aggregate-is-name-10
 slice-aggregate-is-name-10 c = search needs
 
--- src/names.rt:55:8
 is-name-requires-10 : tie.Need-is-name-requires-10
 is-name-requires-10 c κs = search needs
 
--- src/names.rt:56:9
 returns-10 : tie.Need-returns-10
 unfolding lookupOf
 returns-10 c =
@@ -200,7 +160,6 @@ returns-10 c =
     let c1 = c2 .before .before .before in
     rw (sym (c1 .before .is-name .ensures) ∙ c1 .if1 .left, sym (c2 .before .is-name2 .ensures) ∙ c2 .if2 .left, sym (c3 .before .is-name3 .ensures) ∙ c3 .if3 .left, sym (c4 .before .is-name4 .ensures) ∙ c4 .if4 .left, sym (c5 .before .is-name5 .ensures) ∙ c5 .if5 .left, sym (c6 .before .is-name6 .ensures) ∙ c6 .if6 .left, sym (c7 .before .is-name7 .ensures) ∙ c7 .if7 .left, sym (c8 .before .is-name8 .ensures) ∙ c8 .if8 .left, sym (c9 .before .is-name9 .ensures) ∙ c9 .if9 .left, sym (c .before .is-name10 .ensures) ∙ c .if10 .taken)
 
--- src/names.rt:25:1
 returns-11 : tie.Need-returns-11
 unfolding lookupOf
 returns-11 c =

@@ -1,20 +1,12 @@
+-- `skip_spaces` takes spaces off the front. The loop's invariant: what is left gives the same without its spaces in front. Assumes nothing.
 use borrow.Author.Needs.{needs}
-use Prim.Native.Nat.{ℕ, zero, suc, _+_, _*_, _-_, _≤_, _<_}
+use Prim.Native.Nat.{_-_, _≤_}
 use native.Mathlib.Omega.{arith}
-use native.Mathlib.Numerals.{add-one}
-use mathlib.Core.Bool.{Bool, true, false, cond, not, _&&_, _||_}
-use mathlib.Core.Path.{_≡_, refl, sym, ap, subst, _∙_}
-use mathlib.Core.Logic.{⊎-elim}
-use mathlib.Core.List.{List, [], _∷_, _++_}
-use lib.Dec.{eqb}
-use lib.ListN.{length, getD, take, drop, set, length-set}
-use borrow.Author.Tests.{eq-eqb, ne-eqb, lt-ltb, le-ltb, le-leb, lt-leb}
+use mathlib.Core.Path.{_≡_, _∙_}
 use Rattle.customize_subs.specs.Parts.{front}
-use Rattle.customize_subs.specs.LawsParts.{between, front-stop, front-next, front-end}
+use Rattle.customize_subs.specs.PartsLaws.{between, front-stop, front-next, front-end}
 use Rattle.customize_subs.proofs.parts.skip_spaces.Statement.{statement}
 use Rattle.customize_subs.proofs.parts.skip_spaces.Tie as tie
-use Rattle.customize_subs.proofs.parts.skip_spaces.Reads as reads
-use Rattle.customize_subs.proofs.parts.skip_spaces.Lts as lts
 
 abbrev Inv-loop : tie.InvT-loop
 Inv-loop text start end i₀ i = (start ≤ i) × ((i ≤ end) × (front (between i end text) ≡ front (between start end text)))
@@ -22,37 +14,30 @@ Inv-loop text start end i₀ i = (start ≤ i) × ((i ≤ end) × (front (betwee
 abbrev μ-loop : tie.MeasureT-loop
 μ-loop text start end i₀ i = end - i
 
--- src/parts.rt:65:5
 loop-holds : tie.Need-loop-holds Inv-loop μ-loop
 loop-holds c = search needs
 
--- src/parts.rt:66:12
 shared-slice-read-if1 : tie.Need-shared-slice-read-if1 Inv-loop μ-loop
 shared-slice-read-if1 c = omega arith
 
--- src/parts.rt:67:13
 returns : tie.Need-returns Inv-loop μ-loop
 returns c =
     let l = c .before .before .before .loop in
     let a = c .before .before .before .before .args in
     (front-stop (l .i) (a .end) (a .text .now) (omega arith) (omega arith) (c .if1 .taken) ∙ l .inv .1 .1, (omega arith, omega arith))
 
--- src/parts.rt:69:13
 add-i : tie.Need-add-i Inv-loop μ-loop
 add-i c = omega arith
 
--- src/parts.rt:65:5
 loop-less : tie.Need-loop-less Inv-loop μ-loop
 loop-less c = omega arith
 
--- src/parts.rt:65:5
 loop-again : tie.Need-loop-again Inv-loop μ-loop
 loop-again c =
     let l = c .before .before .before .loop in
     let a = c .before .before .before .before .args in
     (omega arith, (omega arith, front-next (l .i) (a .end) (a .text .now) (omega arith) (omega arith) (c .if1 .left) ∙ l .inv .1 .1))
 
--- src/parts.rt:59:1
 returns-2 : tie.Need-returns-2 Inv-loop μ-loop
 returns-2 c =
     let l = c .before .loop in

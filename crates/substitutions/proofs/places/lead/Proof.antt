@@ -1,20 +1,15 @@
+-- `lead` puts a kind first. The loop's invariant: what is passed has moved by one place, and the rest is pushed by what is
+-- carried. Assumes nothing.
 use borrow.Author.Needs.{needs}
-use Prim.Native.Nat.{ℕ, zero, suc, _+_, _*_, _-_, _≤_, _<_}
+use Prim.Native.Nat.{_+_, _-_, _≤_}
 use native.Mathlib.Omega.{arith}
-use native.Mathlib.Numerals.{add-one}
-use mathlib.Core.Bool.{Bool, true, false, cond, not, _&&_, _||_}
-use mathlib.Core.Path.{_≡_, refl, sym, ap, subst, _∙_}
-use mathlib.Core.Logic.{⊎-elim}
-use mathlib.Core.List.{List, [], _∷_, _++_}
-use lib.Dec.{eqb}
-use lib.ListN.{length, getD, take, drop, set, length-set}
-use borrow.Author.Tests.{eq-eqb, ne-eqb, lt-ltb, le-ltb, le-leb, lt-leb}
+use mathlib.Core.Path.{_≡_, sym, _∙_}
+use mathlib.Core.List.{_++_}
+use lib.ListN.{length, take, drop, length-set}
 use Rattle.substitutions.specs.Moves.{led}
-use Rattle.substitutions.specs.LawsPlaces.{pushed, pushed-is, pushed-here, pushed-next, pushed-done}
+use Rattle.substitutions.specs.PlacesLaws.{pushed, pushed-is, pushed-here, pushed-next, pushed-done}
 use Rattle.substitutions.proofs.places.lead.Statement.{statement}
 use Rattle.substitutions.proofs.places.lead.Tie as tie
-use Rattle.substitutions.proofs.places.lead.Reads as reads
-use Rattle.substitutions.proofs.places.lead.Lts as lts
 
 abbrev Inv-loop : tie.InvT-loop
 Inv-loop k p₀ carried₀ i₀ p carried i = (length p₀ ≡ 7) × ((length p ≡ 7) × ((i ≤ 7) × (take i p ++ pushed carried k (drop i p) ≡ led k p₀)))
@@ -22,34 +17,27 @@ Inv-loop k p₀ carried₀ i₀ p carried i = (length p₀ ≡ 7) × ((length p 
 abbrev μ-loop : tie.MeasureT-loop
 μ-loop k p₀ carried₀ i₀ p carried i = 7 - i
 
--- src/places.rt:59:5
 loop-holds : tie.Need-loop-holds Inv-loop μ-loop
 unfolding led
 loop-holds c = (search needs, (search needs, (omega arith, pushed-is (c .args .k) (c .args .k) (c .args .places))))
 
--- src/places.rt:60:20
 array-read-here : tie.Need-array-read-here Inv-loop μ-loop
 array-read-here c = search needs
 
--- src/places.rt:61:9
 array-write-p : tie.Need-array-write-p Inv-loop μ-loop
 array-write-p c = search needs
 
--- src/places.rt:63:13
 returns : tie.Need-returns Inv-loop μ-loop
 returns c =
     let l = c .before .before .loop in
     pushed-here (l .p) (l .i) (c .before .before .before .args .k) 0 (omega arith) (l .carried) (c .if1 .taken) ∙ l .inv .1 .1 .1
 
--- src/places.rt:66:13
 add-i : tie.Need-add-i Inv-loop μ-loop
 add-i c = omega arith
 
--- src/places.rt:59:5
 loop-less : tie.Need-loop-less Inv-loop μ-loop
 loop-less c = omega arith
 
--- src/places.rt:59:5
 loop-again : tie.Need-loop-again Inv-loop μ-loop
 loop-again c =
     let l = c .before .before .loop in (
@@ -60,7 +48,6 @@ loop-again c =
       ),
     )
 
--- src/places.rt:53:1
 returns-2 : tie.Need-returns-2 Inv-loop μ-loop
 returns-2 c =
     let l = c .before .loop in

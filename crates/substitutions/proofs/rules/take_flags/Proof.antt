@@ -1,23 +1,15 @@
+-- `take_flags` lets each place take its kind's flag. The loop's invariant: the flags still there, and the places still to come,
+-- leave what the whole leaves. Assumes nothing.
 use borrow.Author.Needs.{needs}
-use Prim.Native.Nat.{ℕ, zero, suc, _+_, _*_, _-_, _≤_, _<_}
+use Prim.Native.Nat.{_-_, _≤_, _<_}
 use native.Mathlib.Omega.{arith}
-use native.Mathlib.Numerals.{add-one}
-use mathlib.Core.Bool.{Bool, true, false, cond, not, _&&_, _||_}
-use mathlib.Core.Path.{_≡_, refl, sym, ap, subst, _∙_}
-use mathlib.Core.Logic.{⊎-elim}
-use mathlib.Core.List.{List, [], _∷_, _++_}
-use lib.Dec.{eqb}
-use lib.ListN.{length, getD, take, drop, set, length-set}
-use borrow.Author.Tests.{not-true, not-false, eq-eqb, ne-eqb, lt-ltb, le-ltb, le-leb, lt-leb}
-use Rattle.substitutions.specs.LawsKinds.{flag-within}
-use Rattle.substitutions.specs.LawsHeld.{left, left-empty, left-over, left-bare, left-next, left-end}
+use mathlib.Core.Path.{_≡_, refl, sym, _∙_}
+use lib.ListN.{length, getD, drop}
+use borrow.Author.Tests.{not-true, not-false}
+use Rattle.substitutions.specs.KindsLaws.{flag-within}
+use Rattle.substitutions.specs.HeldLaws.{left, left-empty, left-over, left-bare, left-next, left-end}
 use Rattle.substitutions.proofs.rules.take_flags.Statement.{statement}
 use Rattle.substitutions.proofs.rules.take_flags.Tie as tie
-use Rattle.substitutions.proofs.rules.take_flags.Reads as reads
-use Rattle.substitutions.proofs.rules.take_flags.Lts as lts
-use Rattle.substitutions.proofs.flags.flag_of.Reads as flag-of-reads
-use Rattle.substitutions.proofs.flags.is_flagged.Reads as is-flagged-reads
-use Rattle.substitutions.proofs.rules.rest_empty.Reads as rest-empty-reads
 
 abbrev Inv-loop : tie.InvT-loop
 Inv-loop flags places f₀ i₀ f i = (length places ≡ 7) × ((i ≤ 7) × ((f < 128) × (left f (drop i places) ≡ left flags places)))
@@ -25,70 +17,57 @@ Inv-loop flags places f₀ i₀ f i = (length places ≡ 7) × ((i ≤ 7) × ((f
 abbrev μ-loop : tie.MeasureT-loop
 μ-loop flags places f₀ i₀ f i = 7 - i
 
--- src/rules.rt:31:5
 loop-holds : tie.Need-loop-holds Inv-loop μ-loop
 loop-holds c = (search needs, (omega arith, (omega arith, refl)))
 
--- src/rules.rt:32:17
 array-read-p : tie.Need-array-read-p Inv-loop μ-loop
 array-read-p c = search needs
 
--- src/rules.rt:34:16
 rest-empty-requires : tie.Need-rest-empty-requires Inv-loop μ-loop
 rest-empty-requires c κs = search needs
 
--- src/rules.rt:35:17
 returns : tie.Need-returns Inv-loop μ-loop
 returns c =
     let l = c .before .before .before .before .loop in
     let a = c .before .before .before .before .before .args in
     rw (sym (c .before .rest-empty .ensures) ∙ c .if2 .taken) at (sym (left-empty (a .t1) (l .i) (omega arith) (l .f) (c .before .before .if1 .taken))) ∙ l .inv .1 .1 .1
 
--- src/rules.rt:37:13
 returns-2 : tie.Need-returns-2 Inv-loop μ-loop
 returns-2 c =
     let l = c .before .before .before .before .loop in
     let a = c .before .before .before .before .before .args in
     rw (sym (c .before .rest-empty .ensures) ∙ c .if2 .left) at (sym (left-empty (a .t1) (l .i) (omega arith) (l .f) (c .before .before .if1 .taken))) ∙ l .inv .1 .1 .1
 
--- src/rules.rt:40:13
 returns-3 : tie.Need-returns-3 Inv-loop μ-loop
 returns-3 c =
     let l = c .before .before .before .loop in
     let a = c .before .before .before .before .args in
     sym (left-over (a .t1) (l .i) (omega arith) (l .f) (c .if3 .taken)) ∙ l .inv .1 .1 .1
 
--- src/rules.rt:42:13
 is-flagged-requires : tie.Need-is-flagged-requires Inv-loop μ-loop
 is-flagged-requires c κs = search needs
 
--- src/rules.rt:43:13
 returns-4 : tie.Need-returns-4 Inv-loop μ-loop
 returns-4 c =
     let l = c .before .before .before .before .before .loop in
     let a = c .before .before .before .before .before .before .args in
     sym (left-bare (a .t1) (l .i) (omega arith) (l .f) (c .before .before .before .if1 .left) (sym (c .before .is-flagged .ensures) ∙ not-true (c .before .is-flagged .result) (c .if4 .taken))) ∙ l .inv .1 .1 .1
 
--- src/rules.rt:45:17
 flag-of-requires : tie.Need-flag-of-requires Inv-loop μ-loop
 flag-of-requires c κs = search needs
 
--- src/rules.rt:45:13
 sub-f : tie.Need-sub-f Inv-loop μ-loop
 sub-f c =
     let l = c .before .before .before .before .before .before .loop in
     let a = c .before .before .before .before .before .before .before .args in
     omega (arith, flag-within (l .f) (getD (a .t1) (l .i) 0) (omega arith) (omega arith) (omega arith) (sym (c .before .before .is-flagged .ensures) ∙ not-false (c .before .before .is-flagged .result) (c .before .if4 .left)))
 
--- src/rules.rt:46:13
 add-i : tie.Need-add-i Inv-loop μ-loop
 add-i c = omega arith
 
--- src/rules.rt:31:5
 loop-less : tie.Need-loop-less Inv-loop μ-loop
 loop-less c = omega arith
 
--- src/rules.rt:31:5
 loop-again : tie.Need-loop-again Inv-loop μ-loop
 loop-again c =
     let l = c .before .before .before .before .before .before .loop in
@@ -103,7 +82,6 @@ loop-again c =
       ),
     )
 
--- src/rules.rt:25:1
 returns-5 : tie.Need-returns-5 Inv-loop μ-loop
 returns-5 c =
     let l = c .before .loop in

@@ -1,18 +1,18 @@
 -- A held set in numbers: no kind stands in more places than it has flags. And the one walk over the places that decides it.
 use Prim.Native.Nat.{ℕ, zero, suc, _+_, _-_, _≤_, _<_}
 use mathlib.Core.Path.{_≡_, refl, sym, ap, _∙_}
-use mathlib.Core.Bool.{Bool, true, false, cond, not, _&&_, _||_, false≢true, and-false}
+use mathlib.Core.Bool.{Bool, true, false, cond, _&&_, _||_, false≢true, and-false}
 use mathlib.Core.List.{List, [], _∷_}
 use native.Mathlib.Omega.{arith}
 use native.Mathlib.Numerals.{add-one}
-use borrow.Author.Tests.{eqb-true, eqb-false, leb-true, leb-false, ltb-true, ltb-false, eq-eqb, ne-eqb, le-leb, lt-leb, lt-ltb, le-ltb}
+use borrow.Author.Tests.{eqb-true, eqb-false, leb-true, ltb-true, ltb-false, eq-eqb, ne-eqb, le-leb, lt-leb, lt-ltb}
 use lib.Dec.{eqb, leb, ltb, eqb·suc-zero}
 use lib.ListN.{length, getD, drop, drop-of-length-le}
 use lib.Seq.{drop-cons}
 use Rattle.substitutions.specs.declared.Substitutions.{Substitutions}
-use Rattle.substitutions.specs.Kinds.{flagOf, flagged, one, each, sum}
+use Rattle.substitutions.specs.Kinds.{flagOf, flagged, one, sum}
 use Rattle.substitutions.specs.Held.{times, small, empty, packed, once, covered, spare, spares, held, sound}
-use Rattle.substitutions.specs.LawsKinds.{and-left, and-right, and-both, bool-eq, each-at, each-all, sum-same, sum-add, sum-few, one-le, bit, flags, cleared, flag-within, few, few-is, none-is}
+use Rattle.substitutions.specs.KindsLaws.{and-left, and-right, and-both, bool-eq, each-at, each-all, sum-same, sum-add, one-le, bit, flags, cleared, few, few-is, none-is}
 
 -- No kind stands in more places than it has flags: no kind twice, and a flag for every kind placed.
 abbrev pub Within : ℕ → List ℕ → Type 0

@@ -1,10 +1,10 @@
 -- Laws of tests and sums over the kinds, and of a kind's flag in a flag byte. The facts about flags are computed over all
 -- bytes below 128 and all pairs of kinds.
-use Prim.Native.Nat.{ℕ, zero, suc, _+_, _-_, _/_, _%_, _≤_, _<_}
-use mathlib.Core.Path.{_≡_, refl, sym, ap, _∙_}
-use mathlib.Core.Bool.{Bool, true, false, cond, not, _&&_, _||_, false≢true}
+use Prim.Native.Nat.{ℕ, zero, suc, _+_, _-_, _≤_, _<_}
+use mathlib.Core.Path.{_≡_, refl, sym}
+use mathlib.Core.Bool.{Bool, true, false, cond, _&&_, _||_, false≢true}
 use native.Mathlib.Omega.{arith}
-use borrow.Author.Tests.{eqb-true, eqb-false, leb-true, ltb-true, eq-eqb, ne-eqb, le-leb, lt-leb}
+use borrow.Author.Tests.{eqb-true, eqb-false, leb-true, ltb-true, ne-eqb, lt-leb}
 use lib.Dec.{eqb, leb, ltb}
 use Rattle.substitutions.specs.Kinds.{flagOf, flagged, one, each, sum}
 

@@ -1,19 +1,19 @@
 -- Each move keeps a held set held, and in sheet mode a sound set sound.
 use Prim.Native.Nat.{ℕ, zero, suc, _+_, _-_, _≤_, _<_}
 use mathlib.Core.Path.{_≡_, refl, sym, ap, _∙_}
-use mathlib.Core.Bool.{Bool, true, false, cond, not, _&&_, _||_, false≢true}
+use mathlib.Core.Bool.{Bool, true, false, cond, not}
 use mathlib.Core.List.{List, [], _∷_, _++_}
 use native.Mathlib.Omega.{arith}
-use borrow.Author.Tests.{eqb-true, eqb-false, leb-true, leb-false, ltb-true, ltb-false, eq-eqb, ne-eqb, le-leb, lt-ltb}
+use borrow.Author.Tests.{eqb-true, eqb-false, leb-true, ltb-true, ltb-false, eq-eqb, ne-eqb, le-leb}
 use lib.Dec.{eqb, leb, ltb}
-use lib.ListN.{length, take, length-append, length-take}
+use lib.ListN.{length, take, length-append}
 use lib.Seq.{length-take-le}
 use Rattle.substitutions.specs.declared.Substitutions.{Substitutions}
-use Rattle.substitutions.specs.Kinds.{flagOf, flagged, one, each, sum}
+use Rattle.substitutions.specs.Kinds.{flagOf, flagged, one, sum}
 use Rattle.substitutions.specs.Held.{times, small, empty, packed, spares, held, sound}
 use Rattle.substitutions.specs.Moves.{set, filled, without, led, insertOf, removeOf, prependOf}
-use Rattle.substitutions.specs.LawsKinds.{and-left, and-right, and-both, sum-same, sum-add, sum-few, sum-hit, one-le, bit, flags, cleared, added, added-below, flag-within}
-use Rattle.substitutions.specs.LawsHeld.{Within, Facts, facts, held-of, spare-sum, empty-times, times-cons}
+use Rattle.substitutions.specs.KindsLaws.{and-left, and-right, and-both, sum-same, sum-add, sum-few, sum-hit, one-le, bit, flags, cleared, added, added-below}
+use Rattle.substitutions.specs.HeldLaws.{Within, Facts, facts, held-of, spare-sum, empty-times, times-cons}
 
 -- How many places are filled.
 unfoldable pub count : List ℕ → ℕ

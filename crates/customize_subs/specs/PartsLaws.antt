@@ -1,15 +1,15 @@
 -- Parts of the text by their places, and laws for each way through the loops that find them.
-use Prim.Native.Nat.{ℕ, zero, suc, _+_, _-_, _≤_, _<_}
+use Prim.Native.Nat.{ℕ, suc, _+_, _-_, _≤_, _<_}
 use mathlib.Core.Path.{_≡_, refl, sym, ap, _∙_}
-use mathlib.Core.Bool.{Bool, true, false, cond, _&&_, _||_, or-true, and-false}
+use mathlib.Core.Bool.{Bool, true, false, cond, and-false}
 use mathlib.Core.List.{List, [], _∷_, _++_}
 use native.Mathlib.Omega.{arith}
 use native.Mathlib.Numerals.{add-one}
-use borrow.Author.Tests.{eq-eqb, ne-eqb, le-leb, lt-leb, lt-ltb, leb-true}
+use borrow.Author.Tests.{ne-eqb, le-leb, lt-leb, lt-ltb, leb-true}
 use lib.Dec.{eqb, ltb, leb, leb·suc-suc}
-use lib.ListN.{length, take, drop, getD, drop-of-length-le, length-drop, take-append-drop}
-use lib.Seq.{drop-cons, drop-drop, take-suc, getD-drop, getD-take, length-take-le, take-take}
-use Rattle.customize_subs.specs.Parts.{onFirst, split, front, blank, back, spaced, modified}
+use lib.ListN.{length, take, drop, getD, drop-of-length-le, length-drop}
+use lib.Seq.{drop-cons, drop-drop, take-suc, getD-drop, length-take-le}
+use Rattle.customize_subs.specs.Parts.{onFirst, split, front, blank, back, modified}
 
 -- How many bytes stand before the first comma.
 unfoldable pub toComma : List ℕ → ℕ

@@ -1,22 +1,20 @@
 -- What the code of the moves and of the refusals returns is what the definitions say: one law for each way through.
 use Prim.Native.Nat.{ℕ, zero, suc, _+_, _-_, _≤_, _<_}
-use mathlib.Core.Path.{_≡_, refl, sym, ap, _∙_}
-use mathlib.Core.Bool.{Bool, true, false, cond, not, false≢true}
-use mathlib.Core.List.{List, [], _∷_}
+use mathlib.Core.Path.{_≡_, refl, sym}
+use mathlib.Core.Bool.{Bool, true, false, cond}
+use mathlib.Core.List.{List}
 use native.Mathlib.Omega.{arith}
 use borrow.Author.Tests.{ne-eqb, lt-ltb, le-ltb}
-use lib.Dec.{eqb, ltb}
 use lib.ListN.{length}
 use Rattle.substitutions.specs.declared.Substitutions.{Substitutions}
-use Rattle.substitutions.specs.declared.SetAnswer.{SetAnswer}
 use Rattle.substitutions.specs.declared.Mode.{Mode}
 use Rattle.substitutions.specs.declared.Mode.the-variants.{Port, Sheet}
 use Rattle.substitutions.specs.Kinds.{flagOf, flagged}
 use Rattle.substitutions.specs.Held.{held, sound}
 use Rattle.substitutions.specs.Moves.{set, filled, without, led, insertOf, removeOf, prependOf, refusalOf, answer}
-use Rattle.substitutions.specs.LawsKinds.{few}
-use Rattle.substitutions.specs.LawsHeld.{left, leftOver, held-is, sound-is, facts}
-use Rattle.substitutions.specs.LawsMoves.{insert-held, remove-held, prepend-held}
+use Rattle.substitutions.specs.KindsLaws.{few}
+use Rattle.substitutions.specs.HeldLaws.{left, leftOver, held-is, sound-is, facts}
+use Rattle.substitutions.specs.MovesLaws.{insert-held, remove-held, prepend-held}
 
 pub few-not : (f : ℕ) → (f ≡ 0 → ⊥) → (f ≡ 1 → ⊥) → (f ≡ 2 → ⊥) → (f ≡ 4 → ⊥) → (f ≡ 8 → ⊥) → (f ≡ 16 → ⊥) → (f ≡ 32 → ⊥) → (f ≡ 64 → ⊥)
     → few f ≡ false

@@ -1,6 +1,6 @@
 -- What `from_meta` gives is held, and in sheet mode sound.
 use Prim.Native.Nat.{ℕ, _≤_}
-use mathlib.Core.Path.{_≡_, refl, sym, _∙_}
+use mathlib.Core.Path.{_≡_, refl}
 use mathlib.Core.Bool.{Bool, true, false, cond, _&&_}
 use mathlib.Core.List.{List, [], _∷_}
 use native.Mathlib.Omega.{arith}
@@ -13,9 +13,9 @@ use Rattle.substitutions.specs.declared.Mode.the-variants.{Port, Sheet}
 use Rattle.substitutions.specs.Kinds.{flagged, each, sum}
 use Rattle.substitutions.specs.Held.{times, small, empty, packed, once, covered, spare, spares, held, sound}
 use Rattle.substitutions.specs.Moves.{empty-set, room, refusalOf}
-use Rattle.substitutions.specs.LawsKinds.{and-left, and-right}
-use Rattle.substitutions.specs.LawsMoves.{insert-held, remove-held, prepend-held, insert-sound, remove-sound, prepend-sound}
-use Rattle.substitutions.specs.LawsAnswers.{accepted}
+use Rattle.substitutions.specs.KindsLaws.{and-left, and-right}
+use Rattle.substitutions.specs.MovesLaws.{insert-held, remove-held, prepend-held, insert-sound, remove-sound, prepend-sound}
+use Rattle.substitutions.specs.AnswersLaws.{accepted}
 use Rattle.customize_subs.specs.declared.StepOrGroup.{StepOrGroup}
 use Rattle.customize_subs.specs.declared.StepOrGroup.the-variants.{None, Normal, Verbatim, SpecialChars, Callouts, Quotes, Attributes, Replacements, Macros, PostReplacements}
 use Rattle.customize_subs.specs.declared.Lookup.{Lookup}
@@ -25,7 +25,7 @@ use Rattle.customize_subs.specs.declared.Strategy.the-variants.{Insert, 
 use Rattle.customize_subs.specs.Names.{lookupOf}
 use Rattle.customize_subs.specs.Parts.{split, modified}
 use Rattle.customize_subs.specs.Customizing.{partOf, moveOf, kindsOf, entered, enteredName, strategyOf, nameOf, stepped, through, startOf, metaOf, metaRefusal}
-use Rattle.customize_subs.specs.LawsCustomizing.{set-accepted}
+use Rattle.customize_subs.specs.CustomizingLaws.{set-accepted}
 
 -- Every name stands for kinds of 1 to 7.
 unfoldable kinds : List ℕ → Bool

@@ -1,26 +1,23 @@
 -- Laws of reading a part and of entering it, one for each way through the code.
-use Prim.Native.Nat.{ℕ, zero, suc, _+_, _-_, _≤_, _<_}
+use Prim.Native.Nat.{ℕ, _+_, _-_, _≤_, _<_}
 use mathlib.Core.Path.{_≡_, refl, sym, ap, _∙_}
 use mathlib.Core.Bool.{Bool, true, false, cond, _&&_}
 use mathlib.Core.List.{List, [], _∷_}
 use native.Mathlib.Omega.{arith}
-use native.Mathlib.Numerals.{add-one}
 use borrow.Author.Tests.{eq-eqb, ne-eqb, lt-ltb, le-ltb, ltb-false}
-use lib.Dec.{eqb, ltb}
-use lib.ListN.{length, take, drop, getD, length-drop}
+use lib.Dec.{ltb}
+use lib.ListN.{length, take, drop, getD}
 use lib.Seq.{getD-drop, getD-take, take-take}
 use Rattle.substitutions.specs.declared.Substitutions.{Substitutions}
-use Rattle.substitutions.specs.declared.SetAnswer.{SetAnswer}
 use Rattle.substitutions.specs.declared.Mode.{Mode}
-use Rattle.substitutions.specs.declared.Mode.the-variants.{Port, Sheet}
-use Rattle.substitutions.specs.Moves.{refusalOf, answer}
+use Rattle.substitutions.specs.Moves.{refusalOf}
 use Rattle.customize_subs.specs.declared.Lookup.{Lookup}
 use Rattle.customize_subs.specs.declared.Strategy.{Strategy}
 use Rattle.customize_subs.specs.declared.Strategy.the-variants.{Insert, Prepend, Remove}
 use Rattle.customize_subs.specs.Names.{lookupOf}
-use Rattle.customize_subs.specs.Parts.{split, spaced}
-use Rattle.customize_subs.specs.Customizing.{partOf, moveOf, entered, firstOf, lastOf, strategyOf, nameOf, enteredName, stepped, through, startOf, metaOf, metaRefusal, metaAnswer}
-use Rattle.customize_subs.specs.LawsParts.{toComma, between, between-length, between-cons, partsFrom, parts-cons, parts-none}
+use Rattle.customize_subs.specs.Parts.{split}
+use Rattle.customize_subs.specs.Customizing.{partOf, moveOf, entered, firstOf, lastOf, strategyOf, nameOf, enteredName, stepped, through, startOf, metaOf, metaRefusal}
+use Rattle.customize_subs.specs.PartsLaws.{toComma, between, between-length, between-cons, partsFrom, parts-cons, parts-none}
 
 -- The first and the last byte of a part, and what is left without it.
 module _ (a e : ℕ) (l : List ℕ) (lt : a < e) (le : e ≤ length l) where

@@ -2,7 +2,7 @@
 -- back; insert puts the kind last, remove takes it out, prepend puts it first, and the others keep their order.
 use Prim.Native.Nat.{ℕ, zero, suc, _+_, _-_, _≤_, _<_}
 use mathlib.Core.Path.{_≡_, refl, sym, ap, _∙_}
-use mathlib.Core.Bool.{Bool, true, false, cond, _&&_}
+use mathlib.Core.Bool.{Bool, true, false, cond}
 use mathlib.Core.List.{List, [], _∷_, _++_}
 use native.Mathlib.Omega.{arith}
 use borrow.Author.Tests.{eqb-true, eqb-false, eq-eqb, ne-eqb}
@@ -12,9 +12,9 @@ use Rattle.substitutions.specs.declared.Substitutions.{Substitutions}
 use Rattle.substitutions.specs.Kinds.{flagOf, flagged, one}
 use Rattle.substitutions.specs.Held.{times, empty, packed, held}
 use Rattle.substitutions.specs.Moves.{set, filled, without, led, insertOf, removeOf, prependOf}
-use Rattle.substitutions.specs.LawsKinds.{and-left, and-right, one-le, added}
-use Rattle.substitutions.specs.LawsHeld.{facts, times-cons}
-use Rattle.substitutions.specs.LawsMoves.{count, count-cons, empty-all, take-empty, without-out, without-packed, without-length, without-count, absent}
+use Rattle.substitutions.specs.KindsLaws.{and-left, and-right, one-le, added}
+use Rattle.substitutions.specs.HeldLaws.{facts, times-cons}
+use Rattle.substitutions.specs.MovesLaws.{count, count-cons, empty-all, take-empty, without-out, without-packed, without-length, without-count, absent}
 
 -- The kinds in the order of their places, and those of a list other than k.
 unfoldable pub orderOf : List ℕ → List ℕ

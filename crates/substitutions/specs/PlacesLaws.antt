@@ -1,5 +1,5 @@
 -- Laws of the moves on places, one for each way through a loop's turn. `l` is the list as it stands, i places are passed.
-use Prim.Native.Nat.{ℕ, zero, suc, _+_, _-_, _≤_, _<_}
+use Prim.Native.Nat.{ℕ, suc, _+_, _-_, _≤_, _<_}
 use mathlib.Core.Path.{_≡_, refl, sym, ap, _∙_}
 use mathlib.Core.Bool.{Bool, true, false, cond}
 use mathlib.Core.List.{List, [], _∷_, _++_, append-nil}
@@ -10,7 +10,7 @@ use lib.Dec.{eqb}
 use lib.ListN.{length, getD, take, drop, take-append-drop, drop-of-length-le}
 use lib.ListN as L
 use lib.Seq.{set-split, drop-cons, take-suc, take-suc-set, drop-set-lt, append-snoc, take-all, take-append-seam}
-use Rattle.substitutions.specs.Moves.{filled, without, led}
+use Rattle.substitutions.specs.Moves.{filled, without}
 
 -- The gap at place `at` closed.
 unfoldable pub closed : ℕ → List ℕ → List ℕ

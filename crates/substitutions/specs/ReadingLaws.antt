@@ -1,19 +1,19 @@
 -- `held` and `sound` are true of exactly the sets that `Reading` describes.
 use Prim.Native.Nat.{ℕ, zero, suc, _+_, _≤_, _<_}
 use mathlib.Core.Path.{_≡_, refl, sym, ap, _∙_}
-use mathlib.Core.Bool.{Bool, true, false, cond, _&&_, false≢true}
+use mathlib.Core.Bool.{Bool, true, false, cond, false≢true}
 use mathlib.Core.List.{List, [], _∷_}
 use native.Mathlib.Omega.{arith}
-use borrow.Author.Tests.{eqb-true, eqb-false, leb-true, ltb-true, ltb-false, eq-eqb, ne-eqb, le-leb, le-ltb}
+use borrow.Author.Tests.{eqb-true, eqb-false, leb-true, ltb-true, ltb-false, eq-eqb, ne-eqb, le-leb}
 use lib.Dec.{eqb, leb, ltb}
 use lib.ListN.{length, getD}
 use Rattle.substitutions.specs.declared.Substitutions.{Substitutions}
 use Rattle.substitutions.specs.Kinds.{flagged, one, sum}
 use Rattle.substitutions.specs.Held.{times, small, empty, packed, spare, spares, held, sound}
 use Rattle.substitutions.specs.Reading.{place, Spare, HeldSet, SoundSet}
-use Rattle.substitutions.specs.LawsKinds.{and-left, and-right, and-both, one-le, bit}
-use Rattle.substitutions.specs.LawsHeld.{Facts, facts, held-of, Within, times-cons}
-use Rattle.substitutions.specs.LawsMoves.{empty-packed, sound-held, sound-spares}
+use Rattle.substitutions.specs.KindsLaws.{and-left, and-right, and-both, one-le}
+use Rattle.substitutions.specs.HeldLaws.{Facts, facts, held-of, times-cons}
+use Rattle.substitutions.specs.MovesLaws.{empty-packed, sound-held, sound-spares}
 
 -- Tests of every place, at one of them; and from every one.
 small-at : (l : List ℕ) (i : ℕ) → small l ≡ true → getD l i 0 ≤ 7

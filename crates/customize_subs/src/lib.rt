@@ -103,7 +103,7 @@ fn from_meta_in(mode: Mode, set: Substitutions, present: bool, text: &[u8]) -> S
 {
     let n = refusal(mode, set, present, text);
     if n != 0 {
-        return SetAnswer { refusal: n, set };
+        return substitutions::refused(n, set);
     }
     if !present {
         return SetAnswer { refusal: 0, set };

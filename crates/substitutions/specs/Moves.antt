@@ -56,10 +56,14 @@ unfoldable pub refusalOf : Mode → Substitutions → ℕ
 refusalOf Port s = cond (held s) 0 10
 refusalOf Sheet s = cond (held s) (cond (sound s) 0 11) 10
 
--- The one place where a refusal is made: its number and the set given. Else 0 and the set that the move gives.
+-- A refusal gives its number and the set given.
+abbrev pub refusedWith : ℕ → Substitutions → SetAnswer
+refusedWith n s = record { refusal = n; set = s }
+
+-- The first refusal that applies, 0 for none; with none, 0 and the set that the move gives.
 unfoldable pub answer : ℕ → Substitutions → Substitutions → SetAnswer
 answer zero s moved = record { refusal = 0; set = moved }
-answer (suc n) s moved = record { refusal = suc n; set = s }
+answer (suc n) s moved = refusedWith (suc n) s
 
 -- What the moves answer.
 unfoldable pub insertAnswer : Mode → Substitutions → Subs → SetAnswer

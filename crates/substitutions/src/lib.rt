@@ -15,7 +15,7 @@ ghost use mathlib.Core.Bool.{true};
 ghost use Prim.Native.Nat.{_≤_, _<_};
 ghost use Rattle.substitutions.specs.Kinds.{numberOf};
 ghost use Rattle.substitutions.specs.Held.{held, sound};
-ghost use Rattle.substitutions.specs.Moves.{empty-set, room, insertOf, removeOf, prependOf, refusalOf, insertAnswer, removeAnswer, prependAnswer};
+ghost use Rattle.substitutions.specs.Moves.{empty-set, room, insertOf, removeOf, prependOf, refusalOf, refusedWith, insertAnswer, removeAnswer, prependAnswer};
 ghost use Rattle.substitutions.specs.HeldLaws.{leftOver};
 
 pub enum Subs {
@@ -122,6 +122,16 @@ pub fn refusal(mode: Mode, set: Substitutions) -> usize
     }
 }
 
+// The one place where a refusal is made: its number, and the set given.
+pub fn refused(number: usize, set: Substitutions) -> SetAnswer
+    ensures { λ r. ⌜ r ≡ refusedWith number set ⌝ }
+{
+    SetAnswer {
+        refusal: number,
+        set,
+    }
+}
+
 // The moves on a set that is known to be held; `insert`, `remove` and `prepend` below find out first.
 pub fn insert_held(mode: Mode, set: Substitutions, sub: Subs) -> Substitutions
     requires { ⌜ held set ≡ true ⌝ }
@@ -134,9 +144,9 @@ pub fn insert_held(mode: Mode, set: Substitutions, sub: Subs) -> Substitutions
         return set;
     }
     let places = set.places;
-    let p = fill(places, places_to_fill(mode), k);
+    let filled = fill(places, places_to_fill(mode), k);
     Substitutions {
-        places: p,
+        places: filled,
         flags: flags + flag_of(k),
     }
 }
@@ -152,9 +162,9 @@ pub fn remove_held(set: Substitutions, sub: Subs) -> Substitutions
         return set;
     }
     let places = set.places;
-    let p = take_out(places, k);
+    let closed = take_out(places, k);
     Substitutions {
-        places: p,
+        places: closed,
         flags: flags - flag_of(k),
     }
 }
@@ -167,12 +177,12 @@ pub fn prepend_held(set: Substitutions, sub: Subs) -> Substitutions
     let k = number(sub);
     let flags = set.flags;
     let places = set.places;
-    let p = lead(places, k);
+    let led = lead(places, k);
     if is_flagged(k, flags) {
-        return Substitutions { places: p, flags };
+        return Substitutions { places: led, flags };
     }
     Substitutions {
-        places: p,
+        places: led,
         flags: flags + flag_of(k),
     }
 }
@@ -182,7 +192,7 @@ fn insert_in(mode: Mode, set: Substitutions, sub: Subs) -> SetAnswer
 {
     let n = refusal(mode, set);
     if n != 0 {
-        return SetAnswer { refusal: n, set };
+        return refused(n, set);
     }
     SetAnswer {
         refusal: 0,
@@ -195,7 +205,7 @@ fn remove_in(mode: Mode, set: Substitutions, sub: Subs) -> SetAnswer
 {
     let n = refusal(mode, set);
     if n != 0 {
-        return SetAnswer { refusal: n, set };
+        return refused(n, set);
     }
     SetAnswer {
         refusal: 0,
@@ -208,7 +218,7 @@ fn prepend_in(mode: Mode, set: Substitutions, sub: Subs) -> SetAnswer
 {
     let n = refusal(mode, set);
     if n != 0 {
-        return SetAnswer { refusal: n, set };
+        return refused(n, set);
     }
     SetAnswer {
         refusal: 0,

@@ -14,12 +14,15 @@ use Rattle.customize_subs.proofs.from_meta_in.Tie as tie
 refusal-requires : tie.Need-refusal-requires
 refusal-requires c κs = search needs
 
+refused-requires : tie.Need-refused-requires
+refused-requires c κs = search needs
+
 returns : tie.Need-returns
 unfolding metaAnswer
 returns c =
-    let a = c .before .before .before .args in
+    let a = c .before .before .before .before .args in
     let t = a .text .now in
-    refused (c .before .refusal .result) (metaRefusal (a .mode) (a .set) (a .present) t) (a .set) (metaOf (a .mode) (a .set) (a .present) t) (c .before .refusal .ensures) (c .if1 .taken)
+    c .refused .ensures ∙ refused (c .before .before .refusal .result) (metaRefusal (a .mode) (a .set) (a .present) t) (a .set) (metaOf (a .mode) (a .set) (a .present) t) (c .before .before .refusal .ensures) (c .before .if1 .taken)
 
 returns-2 : tie.Need-returns-2
 unfolding metaAnswer
@@ -52,4 +55,5 @@ returns-3 c =
 pub from-meta-in-spec : {M : Type 1} → statement M
 from-meta-in-spec =
     tie.close
-    (tie.spec refusal-requires returns returns-2 start-of-requires customize-requires returns-3)
+    (tie.spec refusal-requires refused-requires
+    returns returns-2 start-of-requires customize-requires returns-3)

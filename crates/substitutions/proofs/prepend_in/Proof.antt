@@ -12,11 +12,14 @@ use Rattle.substitutions.proofs.prepend_in.Tie as tie
 refusal-requires : tie.Need-refusal-requires
 refusal-requires c κs = search needs
 
+refused-requires : tie.Need-refused-requires
+refused-requires c κs = search needs
+
 returns : tie.Need-returns
 unfolding prependAnswer
 returns c =
-    let a = c .before .before .args in
-    refused (c .before .refusal .result) (refusalOf (a .mode) (a .set)) (a .set) (prependOf (numberOf (a .sub)) (a .set)) (c .before .refusal .ensures) (c .if1 .taken)
+    let a = c .before .before .before .args in
+    c .refused .ensures ∙ refused (c .before .before .refusal .result) (refusalOf (a .mode) (a .set)) (a .set) (prependOf (numberOf (a .sub)) (a .set)) (c .before .before .refusal .ensures) (c .before .if1 .taken)
 
 prepend-held-requires : tie.Need-prepend-held-requires
 prepend-held-requires c κs =
@@ -31,4 +34,5 @@ returns-2 c =
     (sym (c .before .before .refusal .ensures) ∙ c .before .if1 .left) (c .prepend-held .ensures .0)
 
 pub prepend-in-spec : {M : Type 1} → statement M
-prepend-in-spec = tie.close (tie.spec refusal-requires returns prepend-held-requires returns-2)
+prepend-in-spec = tie.close (tie.spec refusal-requires refused-requires
+    returns prepend-held-requires returns-2)

@@ -10,13 +10,13 @@ use Rattle.substitutions.specs.declared.SetAnswer.{SetAnswer}
 use Rattle.substitutions.specs.declared.Mode.{Mode}
 use Rattle.substitutions.specs.declared.Mode.the-variants.{Port, Sheet}
 use Rattle.substitutions.specs.Moves.{empty-set, room, insertOf, removeOf, prependOf, refusalOf, answer}
-use Rattle.customize_subs.specs.declared.StepOrGroup.{StepOrGroup}
-use Rattle.customize_subs.specs.declared.StepOrGroup.the-variants.{None, Normal, Verbatim, SpecialChars, Callouts, Quotes, Attributes, Replacements, Macros, PostReplacements}
-use Rattle.customize_subs.specs.declared.Lookup.{Lookup}
-use Rattle.customize_subs.specs.declared.Lookup.the-variants.{Found, Unknown}
+use Rattle.subs_names.specs.declared.StepOrGroup.{StepOrGroup}
+use Rattle.subs_names.specs.declared.StepOrGroup.the-variants.{None, Normal, Verbatim, SpecialChars, Callouts, Quotes, Attributes, Replacements, Macros, PostReplacements}
+use Rattle.subs_names.specs.declared.Lookup.{Lookup}
+use Rattle.subs_names.specs.declared.Lookup.the-variants.{Found, Unknown}
 use Rattle.customize_subs.specs.declared.Strategy.{Strategy}
 use Rattle.customize_subs.specs.declared.Strategy.the-variants.{Insert, Prepend, Remove}
-use Rattle.customize_subs.specs.Names.{lookupOf}
+use Rattle.subs_names.specs.Names.{lookupOf}
 use Rattle.customize_subs.specs.Parts.{split, spaced, modified}
 
 -- Where the modes differ: spaces are taken off both ends of each part before its length is tested, in sheet mode;

@@ -11,10 +11,10 @@ use lib.Seq.{getD-drop, getD-take, take-take}
 use Rattle.substitutions.specs.declared.Substitutions.{Substitutions}
 use Rattle.substitutions.specs.declared.Mode.{Mode}
 use Rattle.substitutions.specs.Moves.{refusalOf}
-use Rattle.customize_subs.specs.declared.Lookup.{Lookup}
+use Rattle.subs_names.specs.declared.Lookup.{Lookup}
 use Rattle.customize_subs.specs.declared.Strategy.{Strategy}
 use Rattle.customize_subs.specs.declared.Strategy.the-variants.{Insert, Prepend, Remove}
-use Rattle.customize_subs.specs.Names.{lookupOf}
+use Rattle.subs_names.specs.Names.{lookupOf}
 use Rattle.customize_subs.specs.Parts.{split}
 use Rattle.customize_subs.specs.Customizing.{partOf, moveOf, entered, firstOf, lastOf, strategyOf, nameOf, enteredName, stepped, through, startOf, metaOf, metaRefusal}
 use Rattle.customize_subs.specs.PartsLaws.{toComma, between, between-length, between-cons, partsFrom, parts-cons, parts-none}

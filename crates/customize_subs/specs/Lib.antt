@@ -1,8 +1,6 @@
-pub mod Names
 pub mod Parts
 pub mod Customizing
 pub mod Cases
-pub mod NamesLaws
 pub mod PartsLaws
 pub mod CustomizingLaws
 pub mod MetaLaws

@@ -16,13 +16,13 @@ use Rattle.substitutions.specs.Moves.{empty-set, room, refusalOf}
 use Rattle.substitutions.specs.KindsLaws.{and-left, and-right}
 use Rattle.substitutions.specs.MovesLaws.{insert-held, remove-held, prepend-held, insert-sound, remove-sound, prepend-sound}
 use Rattle.substitutions.specs.AnswersLaws.{accepted}
-use Rattle.customize_subs.specs.declared.StepOrGroup.{StepOrGroup}
-use Rattle.customize_subs.specs.declared.StepOrGroup.the-variants.{None, Normal, Verbatim, SpecialChars, Callouts, Quotes, Attributes, Replacements, Macros, PostReplacements}
-use Rattle.customize_subs.specs.declared.Lookup.{Lookup}
-use Rattle.customize_subs.specs.declared.Lookup.the-variants.{Found, Unknown}
+use Rattle.subs_names.specs.declared.StepOrGroup.{StepOrGroup}
+use Rattle.subs_names.specs.declared.StepOrGroup.the-variants.{None, Normal, Verbatim, SpecialChars, Callouts, Quotes, Attributes, Replacements, Macros, PostReplacements}
+use Rattle.subs_names.specs.declared.Lookup.{Lookup}
+use Rattle.subs_names.specs.declared.Lookup.the-variants.{Found, Unknown}
 use Rattle.customize_subs.specs.declared.Strategy.{Strategy}
 use Rattle.customize_subs.specs.declared.Strategy.the-variants.{Insert, Prepend, Remove}
-use Rattle.customize_subs.specs.Names.{lookupOf}
+use Rattle.subs_names.specs.Names.{lookupOf}
 use Rattle.customize_subs.specs.Parts.{split, modified}
 use Rattle.customize_subs.specs.Customizing.{partOf, moveOf, kindsOf, entered, enteredName, strategyOf, nameOf, stepped, through, startOf, metaOf, metaRefusal}
 use Rattle.customize_subs.specs.CustomizingLaws.{set-accepted}

@@ -1,14 +1,14 @@
 // What the text of a subs attribute makes of a substitution set, in port and in sheet mode.
-mod names;
 mod parts;
 mod steps;
 
-use crate::names::look_up_in;
 use crate::parts::has_modifier;
 use crate::parts::name_at;
 use crate::parts::next_comma;
 use crate::parts::part_at;
 use crate::steps::enter;
+use subs_names::Lookup;
+use subs_names::look_up_in;
 use substitutions::Mode;
 use substitutions::SetAnswer;
 use substitutions::Substitutions;
@@ -19,26 +19,6 @@ ghost use lib.ListN.{length};
 ghost use Rattle.substitutions.specs.Held.{held};
 ghost use Rattle.customize_subs.specs.Parts.{split};
 ghost use Rattle.customize_subs.specs.Customizing.{startOf, through, metaRefusal, metaAnswer, portMeta, sheetMeta};
-
-// A name of one kind or of a group of kinds.
-pub enum StepOrGroup {
-    None,
-    Normal,
-    Verbatim,
-    SpecialChars,
-    Callouts,
-    Quotes,
-    Attributes,
-    Replacements,
-    Macros,
-    PostReplacements,
-}
-
-// What looking a name up gives.
-pub enum Lookup {
-    Found(StepOrGroup),
-    Unknown,
-}
 
 // The move that a part asks for.
 pub enum Strategy {

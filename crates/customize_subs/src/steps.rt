@@ -1,6 +1,6 @@
 // A name entered into a set by a part's move.
-use crate::StepOrGroup;
 use crate::Strategy;
+use subs_names::StepOrGroup;
 use substitutions::Mode;
 use substitutions::Subs;
 use substitutions::Substitutions;

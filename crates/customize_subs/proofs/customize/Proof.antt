@@ -7,7 +7,7 @@ use mathlib.Core.Bool.{true}
 use mathlib.Core.Path.{_≡_, refl, sym, ap, _∙_}
 use lib.ListN.{length, set}
 use Rattle.substitutions.specs.Held.{held}
-use Rattle.customize_subs.specs.declared.Lookup.the-variants.{Found, Unknown}
+use Rattle.subs_names.specs.declared.Lookup.the-variants.{Found, Unknown}
 use Rattle.customize_subs.specs.Parts.{split}
 use Rattle.customize_subs.specs.Customizing.{through}
 use Rattle.customize_subs.specs.PartsLaws.{between, partsFrom, parts-all}

@@ -3,9 +3,9 @@ use Prim.Native.Nat.{ℕ}
 use mathlib.Core.Bool.{Bool, true, false, cond, _&&_}
 use mathlib.Core.List.{List, [], _∷_}
 use lib.Dec.{eqb}
-use Rattle.customize_subs.specs.declared.StepOrGroup.the-variants.{None, Normal, Verbatim, SpecialChars, Callouts, Quotes, Attributes, Replacements, Macros, PostReplacements}
-use Rattle.customize_subs.specs.declared.Lookup.{Lookup}
-use Rattle.customize_subs.specs.declared.Lookup.the-variants.{Found, Unknown}
+use Rattle.subs_names.specs.declared.StepOrGroup.the-variants.{None, Normal, Verbatim, SpecialChars, Callouts, Quotes, Attributes, Replacements, Macros, PostReplacements}
+use Rattle.subs_names.specs.declared.Lookup.{Lookup}
+use Rattle.subs_names.specs.declared.Lookup.the-variants.{Found, Unknown}
 
 abbrev pub none : List ℕ
 none = 110 ∷ 111 ∷ 110 ∷ 101 ∷ []

@@ -4,10 +4,10 @@ use Prim.Native.Nat.{_-_, _≤_}
 use native.Mathlib.Omega.{arith}
 use mathlib.Core.Path.{_≡_, _∙_}
 use lib.ListN.{length, drop}
-use Rattle.customize_subs.specs.Names.{same}
-use Rattle.customize_subs.specs.NamesLaws.{same-lengths, same-next, same-stop, same-end}
-use Rattle.customize_subs.proofs.names.is_name.Statement.{statement}
-use Rattle.customize_subs.proofs.names.is_name.Tie as tie
+use Rattle.subs_names.specs.Names.{same}
+use Rattle.subs_names.specs.NamesLaws.{same-lengths, same-next, same-stop, same-end}
+use Rattle.subs_names.proofs.is_name.Statement.{statement}
+use Rattle.subs_names.proofs.is_name.Tie as tie
 
 abbrev Inv-loop : tie.InvT-loop
 Inv-loop part name i₀ i = (i ≤ length part) × (same (drop i part) (drop i name) ≡ same part name)

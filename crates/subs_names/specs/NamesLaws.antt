@@ -7,7 +7,7 @@ use borrow.Author.Tests.{eq-eqb, ne-eqb}
 use mathlib.Core.Path.{_≡_, refl, ap}
 use mathlib.Core.Bool.{true, false, and-false}
 use mathlib.Core.List.{List, [], _∷_}
-use Rattle.customize_subs.specs.Names.{same}
+use Rattle.subs_names.specs.Names.{same}
 
 pub same-lengths : (a b : List ℕ) → (length a ≡ length b → ⊥) → false ≡ same a b
 unfolding same

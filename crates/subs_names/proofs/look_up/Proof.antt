@@ -2,9 +2,9 @@
 use borrow.Author.Needs.{needs}
 use Prim.Native.Nat.{_-_}
 use mathlib.Core.Path.{sym, _∙_}
-use Rattle.customize_subs.specs.Names.{lookupOf}
-use Rattle.customize_subs.proofs.names.look_up.Statement.{statement}
-use Rattle.customize_subs.proofs.names.look_up.Tie as tie
+use Rattle.subs_names.specs.Names.{lookupOf}
+use Rattle.subs_names.proofs.look_up.Statement.{statement}
+use Rattle.subs_names.proofs.look_up.Tie as tie
 
 slice-aggregate-is-name : tie.Need-slice-aggregate-is-name
 slice-aggregate-is-name c = search needs

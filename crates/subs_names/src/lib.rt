@@ -1,10 +1,28 @@
-// The names of the kinds and of the groups.
-use crate::Lookup;
-use crate::StepOrGroup;
+// The names of the kinds and of the groups of kinds that a subs text may hold, looked up byte for byte.
 ghost use mathlib.Core.Path.{_≡_};
 ghost use Prim.Native.Nat.{_≤_, _-_};
 ghost use lib.ListN.{length, take, drop};
-ghost use Rattle.customize_subs.specs.Names.{same, lookupOf};
+ghost use Rattle.subs_names.specs.Names.{same, lookupOf};
+
+// A name of one kind or of a group of kinds.
+pub enum StepOrGroup {
+    None,
+    Normal,
+    Verbatim,
+    SpecialChars,
+    Callouts,
+    Quotes,
+    Attributes,
+    Replacements,
+    Macros,
+    PostReplacements,
+}
+
+// What looking a name up gives.
+pub enum Lookup {
+    Found(StepOrGroup),
+    Unknown,
+}
 
 // Whether the part is the name, byte for byte.
 pub fn is_name(part: &[u8], name: &[u8]) -> bool

@@ -17,7 +17,8 @@ use Rattle.customize_subs.specs.declared.Strategy.the-variants.{Insert, 
 use Rattle.subs_names.specs.Names.{lookupOf}
 use Rattle.customize_subs.specs.Parts.{split}
 use Rattle.customize_subs.specs.Customizing.{partOf, moveOf, entered, firstOf, lastOf, strategyOf, nameOf, enteredName, stepped, through, startOf, metaOf, metaRefusal}
-use Rattle.customize_subs.specs.PartsLaws.{toComma, between, between-length, between-cons, partsFrom, parts-cons, parts-none}
+use Rattle.customize_subs.specs.PartsLaws.{between-length, between-cons, parts-cons, parts-none}
+use Rattle.customize_subs.specs.Walks.{toComma, between, partsFrom}
 
 -- The first and the last byte of a part, and what is left without it.
 module _ (a e : ℕ) (l : List ℕ) (lt : a < e) (le : e ≤ length l) where

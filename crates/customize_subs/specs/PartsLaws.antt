@@ -10,19 +10,7 @@ use lib.Dec.{eqb, ltb, leb, leb·suc-suc}
 use lib.ListN.{length, take, drop, getD, drop-of-length-le, length-drop}
 use lib.Seq.{drop-cons, drop-drop, take-suc, getD-drop, length-take-le}
 use Rattle.customize_subs.specs.Parts.{onFirst, split, front, blank, back, modified}
-
--- How many bytes stand before the first comma.
-unfoldable pub toComma : List ℕ → ℕ
-toComma [] = 0
-toComma (b ∷ bs) = cond (eqb b 44) 0 (suc (toComma bs))
-
--- The bytes from place a up to place e.
-unfoldable pub between : ℕ → ℕ → List ℕ → List ℕ
-between a e l = take (e - a) (drop a l)
-
--- The parts from a place on: none past the end.
-unfoldable pub partsFrom : ℕ → List ℕ → List (List ℕ)
-partsFrom at text = cond (leb at (length text)) (split (drop at text)) []
+use Rattle.customize_subs.specs.Walks.{toComma, between, partsFrom}
 
 -- The first comma.
 pub comma-end : (text : List ℕ) (i : ℕ) → length text ≤ i → toComma (drop i text) ≡ 0

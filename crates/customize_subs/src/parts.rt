@@ -6,7 +6,7 @@ ghost use Prim.Native.Nat.{_≤_, _<_, _+_};
 ghost use lib.ListN.{length, drop};
 ghost use Rattle.customize_subs.specs.Parts.{front, back, modified};
 ghost use Rattle.customize_subs.specs.Customizing.{partOf, strategyOf, nameOf};
-ghost use Rattle.customize_subs.specs.PartsLaws.{toComma, between};
+ghost use Rattle.customize_subs.specs.Walks.{toComma, between};
 
 // A part of the text: the bytes from `start` up to `end`.
 pub struct Span {

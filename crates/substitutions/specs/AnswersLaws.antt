@@ -12,8 +12,9 @@ use Rattle.substitutions.specs.declared.Mode.the-variants.{Port, Sheet}
 use Rattle.substitutions.specs.Kinds.{flagOf, flagged}
 use Rattle.substitutions.specs.Held.{held, sound}
 use Rattle.substitutions.specs.Moves.{set, filled, without, led, insertOf, removeOf, prependOf, refusalOf, answer}
-use Rattle.substitutions.specs.KindsLaws.{few}
-use Rattle.substitutions.specs.HeldLaws.{left, leftOver, held-is, sound-is, facts}
+use Rattle.substitutions.specs.Walks.{few}
+use Rattle.substitutions.specs.HeldLaws.{held-is, sound-is, facts}
+use Rattle.substitutions.specs.Walks.{left, leftOver}
 use Rattle.substitutions.specs.MovesLaws.{insert-held, remove-held, prepend-held}
 
 pub few-not : (f : ℕ) → (f ≡ 0 → ⊥) → (f ≡ 1 → ⊥) → (f ≡ 2 → ⊥) → (f ≡ 4 → ⊥) → (f ≡ 8 → ⊥) → (f ≡ 16 → ⊥) → (f ≡ 32 → ⊥) → (f ≡ 64 → ⊥)

@@ -12,7 +12,9 @@ use lib.Seq.{drop-cons}
 use Rattle.substitutions.specs.declared.Substitutions.{Substitutions}
 use Rattle.substitutions.specs.Kinds.{flagOf, flagged, one, sum}
 use Rattle.substitutions.specs.Held.{times, small, empty, packed, once, covered, spare, spares, held, sound}
-use Rattle.substitutions.specs.KindsLaws.{and-left, and-right, and-both, bool-eq, each-at, each-all, sum-same, sum-add, one-le, bit, flags, cleared, few, few-is, none-is}
+use Rattle.substitutions.specs.KindsLaws.{and-left, and-right, and-both, bool-eq, each-at, each-all, sum-same, sum-add, one-le, bit, flags, cleared, few-is, none-is}
+use Rattle.substitutions.specs.Walks.{few}
+use Rattle.substitutions.specs.Walks.{left, leftOver, few}
 
 -- No kind stands in more places than it has flags: no kind twice, and a flag for every kind placed.
 abbrev pub Within : ℕ → List ℕ → Type 0
@@ -106,12 +108,6 @@ empty-small (p ∷ ps) e =
     let z : p ≡ 0 = eqb-true p 0 (and-left (eqb p 0) (empty ps) e) in
     rw z (empty-small ps (and-right (eqb p 0) (empty ps) e))
 
--- The flags left when each place in turn takes its kind's flag; 255 where there is none to take, or where a kind stands
--- behind an empty place.
-unfoldable pub left : ℕ → List ℕ → ℕ
-left f [] = f
-left f (p ∷ ps) = cond (eqb p 0) (cond (empty ps) f 255) (cond (leb p 7 && flagged p f) (left (f - flagOf p) ps) 255)
-
 -- a kind that is placed, and the rest
 within-tail : (f p : ℕ) (ps : List ℕ) → f < 128 → 1 ≤ p → p ≤ 7 → flagged p f ≡ true → Within f (p ∷ ps) → Within (f - flagOf p) ps
 unfolding times
@@ -187,10 +183,6 @@ good-left f (p ∷ ps) h l = by (eqb p 0) refl (good-left (f - flagOf p) ps)
         let e : flagged p f ≡ true = and-right (leb p 7) (flagged p f) g in
         let r = ih (omega arith) m in
         (and-both (leb p 7) (small ps) (le-leb p 7 b) (r .0), (rw q (r .1 .0), within-cons f p ps h a b e (r .1 .1)))
-
--- What the code computes of a set: the flags left over, 255 where the set is not held for another reason.
-unfoldable pub leftOver : Substitutions → ℕ
-leftOver s = cond (ltb (s .flags) 128) (left (s .flags) (s .places)) 255
 
 left-flags : (f : ℕ) (ps : List ℕ) → Left f ps → flags (left f ps) + sum 7 (λ k. times k ps) ≡ flags f
 left-flags f ps l =

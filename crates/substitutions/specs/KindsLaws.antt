@@ -2,11 +2,12 @@
 -- bytes below 128 and all pairs of kinds.
 use Prim.Native.Nat.{ℕ, zero, suc, _+_, _-_, _≤_, _<_}
 use mathlib.Core.Path.{_≡_, refl, sym}
-use mathlib.Core.Bool.{Bool, true, false, cond, _&&_, _||_, false≢true}
+use mathlib.Core.Bool.{Bool, true, false, cond, _&&_, false≢true}
 use native.Mathlib.Omega.{arith}
 use borrow.Author.Tests.{eqb-true, eqb-false, leb-true, ltb-true, ne-eqb, lt-leb}
 use lib.Dec.{eqb, leb, ltb}
 use Rattle.substitutions.specs.Kinds.{flagOf, flagged, one, each, sum}
+use Rattle.substitutions.specs.Walks.{few}
 
 pub and-left : (a b : Bool) → a && b ≡ true → a ≡ true
 and-left true b e = refl
@@ -117,10 +118,6 @@ added-below f k h a b e = ltb-true _ _ (and-left (ltb (f + flagOf k) 128) _ (rw 
 pub flag-within : (f k : ℕ) → f < 128 → 1 ≤ k → k ≤ 7 → flagged k f ≡ true → flagOf k ≤ f
 unfolding right
 flag-within f k h a b e = leb-true _ _ (and-left (leb (flagOf k) f) _ (rw e at (right-at f k 1 h a b (omega arith) (omega arith))))
-
--- A byte with at most one flag, and a byte with none.
-unfoldable pub few : ℕ → Bool
-few f = eqb f 0 || eqb f 1 || eqb f 2 || eqb f 4 || eqb f 8 || eqb f 16 || eqb f 32 || eqb f 64
 
 abbrev pub flags : ℕ → ℕ
 flags f = sum 7 (λ k. bit k f)

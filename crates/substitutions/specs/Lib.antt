@@ -2,6 +2,7 @@ pub mod Kinds
 pub mod Held
 pub mod Reading
 pub mod Moves
+pub mod Walks
 pub mod KindsLaws
 pub mod HeldLaws
 pub mod PlacesLaws

@@ -11,15 +11,7 @@ use lib.ListN.{length, getD, take, drop, take-append-drop, drop-of-length-le}
 use lib.ListN as L
 use lib.Seq.{set-split, drop-cons, take-suc, take-suc-set, drop-set-lt, append-snoc, take-all, take-append-seam}
 use Rattle.substitutions.specs.Moves.{filled, without}
-
--- The gap at place `at` closed.
-unfoldable pub closed : ℕ → List ℕ → List ℕ
-closed at l = take at l ++ (drop (suc at) l ++ (0 ∷ []))
-
--- Each place from here on takes what stood before it, the first x, up to where k stood.
-unfoldable pub pushed : ℕ → ℕ → List ℕ → List ℕ
-pushed x k [] = []
-pushed x k (p ∷ ps) = x ∷ cond (eqb p k) ps (pushed p k ps)
+use Rattle.substitutions.specs.Walks.{closed, pushed}
 
 pub pushed-is : (x k : ℕ) (l : List ℕ) → pushed x k l ≡ take (length l) (x ∷ without k l)
 unfolding pushed without

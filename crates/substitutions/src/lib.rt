@@ -16,7 +16,7 @@ ghost use Prim.Native.Nat.{_≤_, _<_};
 ghost use Rattle.substitutions.specs.Kinds.{numberOf};
 ghost use Rattle.substitutions.specs.Held.{held, sound};
 ghost use Rattle.substitutions.specs.Moves.{empty-set, room, insertOf, removeOf, prependOf, refusalOf, refusedWith, insertAnswer, removeAnswer, prependAnswer};
-ghost use Rattle.substitutions.specs.HeldLaws.{leftOver};
+ghost use Rattle.substitutions.specs.Walks.{leftOver};
 
 pub enum Subs {
     SpecialChars,

@@ -4,7 +4,8 @@ use Prim.Native.Nat.{_-_, _≤_}
 use native.Mathlib.Omega.{arith}
 use mathlib.Core.Path.{_≡_, _∙_}
 use Rattle.customize_subs.specs.Parts.{back}
-use Rattle.customize_subs.specs.PartsLaws.{between, back-here, back-next, back-end}
+use Rattle.customize_subs.specs.PartsLaws.{back-here, back-next, back-end}
+use Rattle.customize_subs.specs.Walks.{between}
 use Rattle.customize_subs.proofs.parts.drop_spaces.Statement.{statement}
 use Rattle.customize_subs.proofs.parts.drop_spaces.Tie as tie
 

@@ -1,0 +1,5 @@
+pub mod Lists
+pub mod GroupRows
+pub mod Shorts
+pub mod SymbolKinds
+pub mod Whole

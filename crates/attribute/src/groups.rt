@@ -1,0 +1,67 @@
+// The groups of options and roles.
+use row::one_run;
+use row::put_row;
+use token::TokenPlace;
+use token::runs::find_kind;
+use token::runs::trim;
+ghost use mathlib.Core.Path.{_≡_};
+ghost use mathlib.Core.List.{List, []};
+ghost use Prim.Native.Nat.{ℕ, _+_, _*_, _-_, _≤_, _<_};
+ghost use lib.ListN.{length};
+ghost use Rattle.token.specs.Kind.{attrRef};
+ghost use Rattle.token.specs.Line.{lineOf, mostTokens};
+ghost use Rattle.token.specs.Run.{kept, ofKind, trim};
+ghost use Rattle.row.specs.Row.{width, oneRun};
+ghost use Rattle.row.specs.Laws.{Wrote};
+ghost use Rattle.attribute.specs.Attribute.{unlessEmpty, groups, groupRows};
+
+// Writes the row of a group, if any token is left when it is trimmed.
+fn put_group<'a, 'b>(
+    kinds: &'a [u8],
+    tag: u32,
+    from: TokenPlace,
+    to: TokenPlace,
+    rows: &'b mut [u32],
+    at: usize,
+) -> usize
+    requires { ⌜ (from .0 ≤ to .0) × (to .0 ≤ length (now kinds)) × (length (now kinds) ≤ mostTokens) ⌝ }
+    requires { ⌜ width * (at + (to .0 - from .0)) ≤ length (now rows) ⌝ }
+    ensures wrote { λ r. ⌜ ((text pairs : List ℕ) → Wrote (now (rows .entry)) at (unlessEmpty (oneRun tag) (trim (kept (lineOf (now (kinds .entry)) text pairs) (from .0) (to .0))) []) (now (rows .exit)) r) ⌝ }
+    ensures few { λ r. ⌜ r ≤ at + (to .0 - from .0) ⌝ }
+{
+    let run = trim(kinds, from, to);
+    let count = run.count;
+    if count == 0 {
+        return at;
+    }
+    put_row(rows, at, one_run(tag, run));
+    at + 1
+}
+
+// Writes a row for each group of the tokens kept from `from` up to `to`, split at a kind.
+pub fn push_attr_groups<'a, 'b>(
+    kinds: &'a [u8],
+    delimiter: u8,
+    tag: u32,
+    from: TokenPlace,
+    to: TokenPlace,
+    rows: &'b mut [u32],
+    at: usize,
+) -> usize
+    requires { ⌜ (from .0 ≤ to .0) × (to .0 ≤ length (now kinds)) × (length (now kinds) ≤ mostTokens) × (delimiter ≡ attrRef → ⊥) ⌝ }
+    requires { ⌜ width * (at + (to .0 - from .0)) ≤ length (now rows) ⌝ }
+    ensures wrote { λ r. ⌜ ((text pairs : List ℕ) → Wrote (now (rows .entry)) at (groupRows (oneRun tag) (groups (ofKind delimiter) (kept (lineOf (now (kinds .entry)) text pairs) (from .0) (to .0)))) (now (rows .exit)) r) ⌝ }
+    ensures few { λ r. ⌜ r ≤ at + (to .0 - from .0) ⌝ }
+{
+    let stop = to.0;
+    let mut i = from.0;
+    let mut n = at;
+    loop {
+        let end = find_kind(kinds, delimiter, TokenPlace(i), to);
+        n = put_group(kinds, tag, TokenPlace(i), end, rows, n);
+        if stop <= end.0 {
+            return n;
+        }
+        i = end.0 + 1;
+    }
+}

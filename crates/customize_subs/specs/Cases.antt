@@ -12,7 +12,7 @@ use Rattle.substitutions.specs.Kinds.{flagged, each, sum}
 use Rattle.substitutions.specs.Held.{times, small, empty, packed, once, covered, spare, spares, held, sound}
 use Rattle.substitutions.specs.Moves.{set, filled, without, led, insertOf, removeOf, prependOf, refusalOf, answer}
 use Rattle.subs_names.specs.Names.{same, lookupOf, callouts, verbatim, quotes, macros}
-use Rattle.customize_subs.specs.Parts.{onFirst, split, front, blank, back, spaced, modified}
+use Rattle.customize_subs.specs.Text.{onFirst, split, front, blank, back, spaced, modified}
 use Rattle.customize_subs.specs.Customizing.{entered, strategyOf, nameOf, stepped, through, startOf, metaOf, metaRefusal, metaAnswer}
 
 -- A subs text put on a set, and the set that comes of it.

@@ -17,7 +17,7 @@ use Rattle.subs_names.specs.declared.Lookup.the-variants.{Found, Unknown}
 use Rattle.customize_subs.specs.declared.Strategy.{Strategy}
 use Rattle.customize_subs.specs.declared.Strategy.the-variants.{Insert, Prepend, Remove}
 use Rattle.subs_names.specs.Names.{lookupOf}
-use Rattle.customize_subs.specs.Parts.{split, spaced, modified}
+use Rattle.customize_subs.specs.Text.{split, spaced, modified}
 
 -- Where the modes differ: spaces are taken off both ends of each part before its length is tested, in sheet mode;
 abbrev pub partOf : Mode → List ℕ → List ℕ

@@ -15,9 +15,9 @@ use Rattle.subs_names.specs.declared.Lookup.{Lookup}
 use Rattle.customize_subs.specs.declared.Strategy.{Strategy}
 use Rattle.customize_subs.specs.declared.Strategy.the-variants.{Insert, Prepend, Remove}
 use Rattle.subs_names.specs.Names.{lookupOf}
-use Rattle.customize_subs.specs.Parts.{split}
+use Rattle.customize_subs.specs.Text.{split}
 use Rattle.customize_subs.specs.Customizing.{partOf, moveOf, entered, firstOf, lastOf, strategyOf, nameOf, enteredName, stepped, through, startOf, metaOf, metaRefusal}
-use Rattle.customize_subs.specs.PartsLaws.{between-length, between-cons, parts-cons, parts-none}
+use Rattle.customize_subs.specs.TextLaws.{between-length, between-cons, parts-cons, parts-none}
 use Rattle.customize_subs.specs.Walks.{toComma, between, partsFrom}
 
 -- The first and the last byte of a part, and what is left without it.

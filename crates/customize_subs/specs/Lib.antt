@@ -1,7 +1,7 @@
-pub mod Parts
+pub mod Text
 pub mod Customizing
 pub mod Cases
 pub mod Walks
-pub mod PartsLaws
+pub mod TextLaws
 pub mod CustomizingLaws
 pub mod MetaLaws

@@ -23,7 +23,7 @@ use Rattle.subs_names.specs.declared.Lookup.the-variants.{Found, Unknown}
 use Rattle.customize_subs.specs.declared.Strategy.{Strategy}
 use Rattle.customize_subs.specs.declared.Strategy.the-variants.{Insert, Prepend, Remove}
 use Rattle.subs_names.specs.Names.{lookupOf}
-use Rattle.customize_subs.specs.Parts.{split, modified}
+use Rattle.customize_subs.specs.Text.{split, modified}
 use Rattle.customize_subs.specs.Customizing.{partOf, moveOf, kindsOf, entered, enteredName, strategyOf, nameOf, stepped, through, startOf, metaOf, metaRefusal}
 use Rattle.customize_subs.specs.CustomizingLaws.{set-accepted}
 

@@ -1,11 +1,11 @@
--- Parts by their places in the text, as the code finds them. No public contract speaks of these: the laws tie them to `Parts`
+-- Parts by their places in the text, as the code finds them. No public contract speaks of these: the laws tie them to `Text`
 -- and `Customizing`.
 use Prim.Native.Nat.{ℕ, suc, _-_}
 use mathlib.Core.Bool.{cond}
 use mathlib.Core.List.{List, [], _∷_}
 use lib.Dec.{eqb, leb}
 use lib.ListN.{length, take, drop}
-use Rattle.customize_subs.specs.Parts.{split}
+use Rattle.customize_subs.specs.Text.{split}
 
 -- How many bytes stand before the first comma.
 unfoldable pub toComma : List ℕ → ℕ

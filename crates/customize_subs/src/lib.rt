@@ -17,7 +17,7 @@ ghost use mathlib.Core.Bool.{true};
 ghost use Prim.Native.Nat.{_≤_};
 ghost use lib.ListN.{length};
 ghost use Rattle.substitutions.specs.Held.{held};
-ghost use Rattle.customize_subs.specs.Parts.{split};
+ghost use Rattle.customize_subs.specs.Text.{split};
 ghost use Rattle.customize_subs.specs.Customizing.{startOf, through, metaRefusal, metaAnswer, portMeta, sheetMeta};
 
 // The move that a part asks for.

@@ -4,7 +4,7 @@ use substitutions::Mode;
 ghost use mathlib.Core.Path.{_≡_};
 ghost use Prim.Native.Nat.{_≤_, _<_, _+_};
 ghost use lib.ListN.{length, drop};
-ghost use Rattle.customize_subs.specs.Parts.{front, back, modified};
+ghost use Rattle.customize_subs.specs.Text.{front, back, modified};
 ghost use Rattle.customize_subs.specs.Customizing.{partOf, strategyOf, nameOf};
 ghost use Rattle.customize_subs.specs.Walks.{toComma, between};
 

@@ -8,9 +8,9 @@ use mathlib.Core.Path.{_≡_, refl, sym, ap, _∙_}
 use lib.ListN.{length, set}
 use Rattle.substitutions.specs.Held.{held}
 use Rattle.subs_names.specs.declared.Lookup.the-variants.{Found, Unknown}
-use Rattle.customize_subs.specs.Parts.{split}
+use Rattle.customize_subs.specs.Text.{split}
 use Rattle.customize_subs.specs.Customizing.{through}
-use Rattle.customize_subs.specs.PartsLaws.{parts-all}
+use Rattle.customize_subs.specs.TextLaws.{parts-all}
 use Rattle.customize_subs.specs.Walks.{between, partsFrom}
 use Rattle.customize_subs.specs.CustomizingLaws.{turn-short, turn-name, turns-over}
 use Rattle.customize_subs.proofs.customize.Statement.{statement}

@@ -3,8 +3,8 @@ use borrow.Author.Needs.{needs}
 use Prim.Native.Nat.{_-_, _≤_}
 use native.Mathlib.Omega.{arith}
 use mathlib.Core.Path.{_≡_, _∙_}
-use Rattle.customize_subs.specs.Parts.{back}
-use Rattle.customize_subs.specs.PartsLaws.{back-here, back-next, back-end}
+use Rattle.customize_subs.specs.Text.{back}
+use Rattle.customize_subs.specs.TextLaws.{back-here, back-next, back-end}
 use Rattle.customize_subs.specs.Walks.{between}
 use Rattle.customize_subs.proofs.parts.drop_spaces.Statement.{statement}
 use Rattle.customize_subs.proofs.parts.drop_spaces.Tie as tie

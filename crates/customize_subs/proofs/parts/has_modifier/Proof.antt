@@ -4,8 +4,8 @@ use Prim.Native.Nat.{_-_, _≤_}
 use native.Mathlib.Omega.{arith}
 use mathlib.Core.Path.{_≡_, _∙_}
 use lib.ListN.{length, drop}
-use Rattle.customize_subs.specs.Parts.{modified}
-use Rattle.customize_subs.specs.PartsLaws.{modified-plus, modified-minus, modified-next, modified-end}
+use Rattle.customize_subs.specs.Text.{modified}
+use Rattle.customize_subs.specs.TextLaws.{modified-plus, modified-minus, modified-next, modified-end}
 use Rattle.customize_subs.proofs.parts.has_modifier.Statement.{statement}
 use Rattle.customize_subs.proofs.parts.has_modifier.Tie as tie
 

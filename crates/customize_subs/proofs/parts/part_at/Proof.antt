@@ -3,7 +3,7 @@ use borrow.Author.Needs.{needs}
 use Prim.Native.Nat.{_-_}
 use native.Mathlib.Omega.{arith}
 use mathlib.Core.Path.{ap, _∙_}
-use Rattle.customize_subs.specs.Parts.{back, spaced}
+use Rattle.customize_subs.specs.Text.{back, spaced}
 use Rattle.customize_subs.proofs.parts.part_at.Statement.{statement}
 use Rattle.customize_subs.proofs.parts.part_at.Tie as tie
 

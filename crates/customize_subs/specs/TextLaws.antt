@@ -9,7 +9,7 @@ use borrow.Author.Tests.{ne-eqb, le-leb, lt-leb, lt-ltb, leb-true}
 use lib.Dec.{eqb, ltb, leb, leb·suc-suc}
 use lib.ListN.{length, take, drop, getD, drop-of-length-le, length-drop}
 use lib.Seq.{drop-cons, drop-drop, take-suc, getD-drop, length-take-le}
-use Rattle.customize_subs.specs.Parts.{onFirst, split, front, blank, back, modified}
+use Rattle.customize_subs.specs.Text.{onFirst, split, front, blank, back, modified}
 use Rattle.customize_subs.specs.Walks.{toComma, between, partsFrom}
 
 -- The first comma.

@@ -1,4 +1,4 @@
--- The parts of the subs text.
+-- The text of a subs attribute: its parts, spaces at their ends, and modifiers.
 use Prim.Native.Nat.{ℕ}
 use mathlib.Core.Bool.{Bool, true, false, cond, _&&_, _||_}
 use mathlib.Core.List.{List, [], _∷_}

@@ -52,11 +52,13 @@ fn customize(mode: Mode, set: Substitutions, text: &[u8]) -> Substitutions
         let end = next_comma(text, from);
         start = end + 1;
         let part = part_at(mode, text, from, end);
+        // under 4 bytes is skipped
         if part.end - part.start < 4 {
             continue;
         }
         let name = name_at(text, part.start, part.end);
         let strategy = name.strategy;
+        // a part whose name is not in the list is passed over
         let Lookup::Found(step) = look_up_in(text, name.start, name.end) else {
             continue;
         };

@@ -70,6 +70,12 @@ unfolding answer
 refused zero m s moved e z = absurd (z refl)
 refused (suc n) m s moved e z = rw (sym e)
 
+-- A refused call gives the set given, bit for bit.
+pub refusal-keeps : (n : ℕ) (s moved : Substitutions) → (answer n s moved .refusal ≡ 0 → ⊥) → answer n s moved .set ≡ s
+unfolding answer
+refusal-keeps zero s moved h = absurd (h refl)
+refusal-keeps (suc n) s moved h = refl
+
 pub moved-to : (m : ℕ) (s t moved : Substitutions) → m ≡ 0 → t ≡ moved → record { refusal = 0; set = t } ≡ answer m s moved
 unfolding answer
 moved-to m s t moved e q = rw (e, q)

@@ -74,12 +74,18 @@ typedef struct {
 } telfjost_set_answer;
 
 /*
- * What the text of a subs attribute makes of a set, in port mode (as asciidork-parser 0.38.2 does)
- * and in sheet mode. `present` is false where there is no subs attribute: then the text is not
- * read and the set given is the answer. A text of 0 bytes is not that, and gives the empty set.
+ * What the text of a subs attribute makes of a set. `present` is false where there is no subs
+ * attribute: then the text is not read and the set given is the answer. A text of 0 bytes is not
+ * that, and gives the empty set. The set given is checked in either case.
  */
+
+/* Port mode: as asciidork-parser 0.38.2 does it. There a kind that is inserted when six places
+ * are filled gets its flag and no place. Refusals 9 and 10. */
 telfjost_set_answer telfjost_from_meta(telfjost_set set, bool present, const uint8_t *text,
                                        size_t text_len);
+
+/* Sheet mode: spaces at the ends of a part do not count, `verbatim` is specialchars and
+ * callouts, and the seventh place may be filled. Refusals 9, 10 and 11. */
 telfjost_set_answer telfjost_from_meta_sheet(telfjost_set set, bool present, const uint8_t *text,
                                              size_t text_len);
 

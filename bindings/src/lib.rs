@@ -5,7 +5,7 @@
 //! no `unsafe`.
 //!
 //! A [`Line`] is built token by token, or a [`Lent`] made of three slices that are there
-//! already. Every call that the reader turns away is a [`Refusal`], with document 01's number.
+//! already; a [`Set`] of substitutions is a value. Every call that the reader turns away is a [`Refusal`], with document 01's number.
 //!
 //! ```
 //! use telfjost::{Kind, Line};
@@ -30,9 +30,11 @@
 mod kind;
 mod line;
 mod refusal;
+mod subs;
 #[allow(missing_docs)]
 mod sys;
 
 pub use kind::Kind;
 pub use line::{Lent, Line, Run, Text};
 pub use refusal::Refusal;
+pub use subs::{Set, Sub};

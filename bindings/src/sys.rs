@@ -4,7 +4,7 @@
 //! `&mut` slice, so that nothing else that is lent overlaps it; the library keeps no pointer.
 #![allow(unsafe_code)]
 
-use crate::Lent;
+use crate::{Lent, Set};
 
 #[repr(C)]
 pub struct Bool {
@@ -37,4 +37,30 @@ pub fn is_block_attr_list(line: Lent<'_>) -> Bool {
             pairs.len(),
         )
     }
+}
+
+// ---- substitutions
+
+#[repr(C)]
+pub struct SetAnswer {
+    pub refusal: usize,
+    pub set: Set,
+}
+
+#[link(name = "telfjost", kind = "static")]
+extern "C" {
+    fn telfjost_from_meta(set: Set, present: bool, text: *const u8, text_len: usize) -> SetAnswer;
+    fn telfjost_from_meta_sheet(set: Set, present: bool, text: *const u8, text_len: usize) -> SetAnswer;
+}
+
+pub fn from_meta(set: Set, subs: Option<&[u8]>) -> SetAnswer {
+    let text = subs.unwrap_or_default();
+    // SAFETY: see above.
+    unsafe { telfjost_from_meta(set, subs.is_some(), text.as_ptr(), text.len()) }
+}
+
+pub fn from_meta_sheet(set: Set, subs: Option<&[u8]>) -> SetAnswer {
+    let text = subs.unwrap_or_default();
+    // SAFETY: see above.
+    unsafe { telfjost_from_meta_sheet(set, subs.is_some(), text.as_ptr(), text.len()) }
 }

@@ -26,10 +26,14 @@
  *   4  not two numbers in `pairs` for each kind
  *   5  some kind is over 50
  *   6  a pair starts before the previous one ends, or ends past the text
+ *   9  the text of a subs attribute is over 65,535 bytes
+ *   10 the set is not held
+ *   11 sheet mode: the set is held but not sound
  */
 #ifndef TELFJOST_H
 #define TELFJOST_H
 
+#include <stdbool.h>
 #include <stddef.h>
 #include <stdint.h>
 
@@ -51,6 +55,39 @@ typedef struct {
 telfjost_bool telfjost_is_block_attr_list(const uint8_t *kinds, size_t kinds_len,
                                           const uint8_t *text, size_t text_len,
                                           const uint32_t *pairs, size_t pairs_len);
+
+/*
+ * A substitution set. A place holds a kind, 1 specialchars, 2 quotes, 3 attributes,
+ * 4 replacements, 5 macros, 6 post_replacements, 7 callouts, or 0 for none; kind k has the flag
+ * 2 to the power k - 1. A held set has places of 0 to 7 only, is packed from the front, has no
+ * kind twice, a flag for every kind placed, bit 7 clear, and at most one flag without a place. A
+ * sound set is held and has no flag without a place. The normal set is {{1, 2, 3, 4, 5, 6, 0}, 63}.
+ */
+typedef struct {
+    uint8_t places[7];
+    uint8_t flags;
+} telfjost_set;
+
+typedef struct {
+    size_t refusal;   /* 0, or 9 to 11; then `set` is the set given */
+    telfjost_set set; /* what the text makes of the set given */
+} telfjost_set_answer;
+
+/*
+ * What the text of a subs attribute makes of a set. `present` is false where there is no subs
+ * attribute: then the text is not read and the set given is the answer. A text of 0 bytes is not
+ * that, and gives the empty set. The set given is checked in either case.
+ */
+
+/* Port mode: as asciidork-parser 0.38.2 does it. There a kind that is inserted when six places
+ * are filled gets its flag and no place. Refusals 9 and 10. */
+telfjost_set_answer telfjost_from_meta(telfjost_set set, bool present, const uint8_t *text,
+                                       size_t text_len);
+
+/* Sheet mode: spaces at the ends of a part do not count, `verbatim` is specialchars and
+ * callouts, and the seventh place may be filled. Refusals 9, 10 and 11. */
+telfjost_set_answer telfjost_from_meta_sheet(telfjost_set set, bool present, const uint8_t *text,
+                                             size_t text_len);
 
 #ifdef __cplusplus
 }

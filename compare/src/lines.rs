@@ -46,11 +46,17 @@ impl LineBuf {
     }
 
     /// A line from plain text: repeated dots and equal signs are one token, `{..}` is AttrRef,
-    /// spaces are one Whitespace, digits Digits, every other run of letters a Word.
+    /// spaces are one Whitespace, digits Digits, every other run of letters a Word. A token
+    /// that this does not tell apart is written out: `⟨MaybeEmail u@ex.com⟩`.
     pub fn lex(text: &str) -> Self {
         let mut line = LineBuf::default();
         let mut rest = text;
         while let Some(first) = rest.chars().next() {
+            if let Some((kind, lexeme, behind)) = written_out(rest) {
+                line.push(kind, lexeme.as_bytes());
+                rest = behind;
+                continue;
+            }
             let run = |same: &dyn Fn(char) -> bool| rest.find(|c: char| !same(c)).unwrap_or(rest.len());
             let mark = match first {
                 ']' => Some(CloseBracket),
@@ -93,7 +99,7 @@ impl LineBuf {
                     Some(end) => (AttrRef, end + 1),
                     None => (OpenBrace, 1),
                 },
-                _ => (Word, run(&|c| c.is_alphanumeric() || !c.is_ascii())),
+                _ => (Word, run(&|c| c != '⟨' && (c.is_alphanumeric() || !c.is_ascii()))),
             };
             let len = len.max(first.len_utf8());
             line.push(kind, &rest.as_bytes()[..len]);
@@ -101,6 +107,14 @@ impl LineBuf {
         }
         line
     }
+}
+
+/// `⟨Kind text⟩` at the start: the kind, the text, and what stands behind.
+fn written_out(text: &str) -> Option<(TokenKind, &str, &str)> {
+    let (inside, behind) = text.strip_prefix('⟨')?.split_once('⟩')?;
+    let (name, lexeme) = inside.split_once(' ')?;
+    let kind = KINDS.iter().find(|kind| format!("{kind:?}") == name)?;
+    Some((*kind, lexeme, behind))
 }
 
 /// Each kind that a rule names, at each length that a rule names; a text that differs from the

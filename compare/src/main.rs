@@ -10,12 +10,15 @@ mod check;
 mod library;
 mod lines;
 mod model;
+mod numbers;
 mod record;
 mod rng;
 mod rust_side;
 mod self_test;
 #[allow(dead_code)]
 mod stand_in;
+#[allow(dead_code)]
+mod unreached;
 
 #[allow(dead_code)]
 #[path = "../target/rust/customize_subs.rs"]
@@ -53,7 +56,7 @@ mod variants {
     }
 }
 
-pub use stand_in::CellContentStyle;
+pub use unreached::CellContentStyle;
 
 use std::process::ExitCode;
 use std::sync::Mutex;
@@ -185,7 +188,8 @@ fn usage() -> ExitCode {
        compare --self-test                the Rust side alone
        compare --record                   makes the recorded answers anew
        compare --minutes N [--seed S]     the comparison, longer, then fresh random cases until N minutes are over
-       compare --line ENTRY TEXT          what the Rust gives for a line (block, macro, inline, link)"
+       compare --line ENTRY TEXT          what the Rust gives for a line (block, macro, inline, link; is: whether
+                                          the line, opening bracket and all, is a block attribute list)"
     );
     ExitCode::from(2)
 }
@@ -276,17 +280,21 @@ fn main() -> ExitCode {
 /// What the Rust gives for a line of plain text.
 fn show_line(entry: &str, text: &str) -> ExitCode {
     use rust_side::{Entry, Outcome};
+    let line = lines::LineBuf::lex(text);
+    if line.kinds.is_empty() {
+        return usage();
+    }
     let entry = match entry {
+        "is" => {
+            println!("{}", if rust_side::is_block_attr_list(line.lent()) { "yes" } else { "no" });
+            return ExitCode::SUCCESS;
+        }
         "block" => Entry::Block,
         "macro" => Entry::BlockMacro,
         "inline" => Entry::Inline,
         "link" => Entry::Link,
         _ => return usage(),
     };
-    let line = lines::LineBuf::lex(text);
-    if line.kinds.is_empty() {
-        return usage();
-    }
     let mut rows = Vec::new();
     let outcome = rust_side::read(entry, line.lent(), &mut rows);
     println!("{outcome:?}");

@@ -2,3 +2,4 @@ pub mod Lists
 pub mod GroupRows
 pub mod Shorts
 pub mod SymbolKinds
+pub mod Whole

@@ -140,4 +140,3 @@ module _ (l : Line) (i to start : ℕ) (h : i < to) (e : getD (l .kinds) i 0 ≡
 pub short-none : (has : Bool) (ts : List Token) → ts ≡ [] → shorthandRead has (pieces ts) ≡ record { rows = []; hasId = has }
 unfolding shorthandRead pieces
 short-none has ts e = rw e
-

@@ -85,4 +85,3 @@ module _ (kinds text pairs : List ℕ) (from to : ℕ) (has : Bool) (base : List
     shorting-end h =
         let d = left-is (record { rows = []; hasId = id }) (short-none id (kept (lineOf kinds text pairs) i to) (kept-none (lineOf kinds text pairs) i to h)) in
         record { wrote = writes-wrote base at _ cur n (d .writes); id = d .ids }
-

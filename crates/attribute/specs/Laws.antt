@@ -8,7 +8,7 @@ use mathlib.Core.List.{List, [], _∷_, _++_}
 use lib.ListN.{length}
 use Rattle.token.specs.declared.Run.{Run}
 use Rattle.token.specs.Line.{Token}
-use Rattle.token.specs.Run.{isComma, isWhitespace, isEquals, ofOne, upTo, onward, trimStart, leave, trimEnd, trim, quoted, inside, front, unquote, runOf, without}
+use Rattle.token.specs.Run.{isComma, isHash, isWhitespace, isEquals, ofOne, upTo, onward, trimStart, leave, trimEnd, trim, quoted, inside, front, unquote, runOf, without}
 use Rattle.token.specs.Kept.{onward-later, unquote-plain}
 use Rattle.row.specs.declared.Row.{Row}
 use Rattle.row.specs.Row.{positional}
@@ -196,3 +196,137 @@ pub cut-has-symbol : (block : Bool) (ts us : List Token) → attrIr block ts ≡
 cut-has-symbol block ts us e f =
     let w = cut-tokens block ts us e in
     noted-symbol block ts (w .1) (ap (onward isSymbol) (sym (w .0)) ∙ f)
+
+ir-as : (block : Bool) (ts : List Token) (r : Reading) → look block true false ts ≡ r → attrIr block ts ≡ irAs block ts r
+unfolding attrIr
+ir-as block ts r e = ap (irAs block ts) e
+
+-- ---- "an attribute of n tokens gives at most max(1, n) rows": why 5 × tokens is room enough
+
+-- max(1, n)
+abbrev pub orOne : ℕ → ℕ
+orOne zero = 1
+orOne (suc n) = suc n
+
+or-one : (n : ℕ) → (n ≤ orOne n) × (1 ≤ orOne n)
+or-one zero = (omega arith, omega arith)
+or-one (suc n) = (omega arith, omega arith)
+
+or-one-more : (m n : ℕ) → m ≤ n → orOne m ≤ orOne n
+or-one-more zero n h = or-one n .1
+or-one-more (suc m) n h = omega (arith, or-one n .0)
+
+upTo-length : (p : Token → Bool) (ts : List Token) → length (upTo p ts) ≤ length ts
+upTo-length p ts = omega (arith, cut-length p ts)
+
+onward-length : (p : Token → Bool) (ts : List Token) → length (onward p ts) ≤ length ts
+onward-length p ts = omega (arith, cut-length p ts)
+
+unless-length : (f : Run → Row) (ts : List Token) (rs : List Row) → length (unlessEmpty f ts rs) ≤ length ts + length rs
+unless-length f [] rs = omega arith
+unless-length f (t ∷ ts) rs = omega arith
+
+-- the rows of the groups after each delimiter: what stands before the first delimiter gives none of them
+later-rows : (f : Run → Row) (p : Token → Bool) (ts : List Token) → length (groupRows f (laterGroups p ts)) + length (upTo p ts) ≤ length ts
+unfolding groupRows laterGroups upTo
+later-rows f p [] = omega arith
+later-rows f p (t ∷ ts) = go (p t) (later-rows f p ts)
+  where
+    go : (b : Bool) → length (groupRows f (laterGroups p ts)) + length (upTo p ts) ≤ length ts
+        → length (groupRows f (cond b (upTo p ts ∷ laterGroups p ts) (laterGroups p ts))) + length (cond b [] (t ∷ upTo p ts)) ≤ length (t ∷ ts)
+    go true h = omega (arith, h, unless-length f (trim (upTo p ts)) (groupRows f (laterGroups p ts)), trim-length (upTo p ts))
+    go false h = omega (arith, h)
+
+group-few : (f : Run → Row) (p : Token → Bool) (ts : List Token) → length (groupRows f (groups p ts)) ≤ length ts
+unfolding groupRows groups
+group-few f p ts = omega (arith, later-rows f p ts, unless-length f (trim (upTo p ts)) (groupRows f (laterGroups p ts)), trim-length (upTo p ts))
+
+pieces-few : (ts : List Token) → length (pieces ts) ≤ length ts
+unfolding pieces
+pieces-few [] = omega arith
+pieces-few (t ∷ ts) = go (isStop t) (pieces-few ts)
+  where
+    go : (b : Bool) → length (pieces ts) ≤ length ts → length (cond b (record { symbol = t; taken = upTo isStop ts } ∷ pieces ts) (pieces ts)) ≤ length (t ∷ ts)
+    go true h = omega (arith, h)
+    go false h = omega (arith, h)
+
+shorthand-few : (has : Bool) (ps : List Piece) → length (shorthandRead has ps .rows) ≤ length ps
+unfolding shorthandRead
+shorthand-few has [] = omega arith
+shorthand-few has (p ∷ ps) = go (lastEmpty (p .taken) ps) (isHash (p .symbol) && has) (shorthand-few (isHash (p .symbol) || has) ps)
+  where
+    go : (a b : Bool) → length (shorthandRead (isHash (p .symbol) || has) ps .rows) ≤ length ps
+        → length (cond a (oneRow has (Rattle.row.specs.Row.diagnostic (p .symbol .place) 1)) (cond b (oneRow has (Rattle.row.specs.Row.diagnostic (p .symbol .place) 4)) (rowFirst (Rattle.attribute.specs.Attribute.symbolRow (p .symbol) (runOf (p .taken))) (shorthandRead (isHash (p .symbol) || has) ps))) .rows) ≤ length (p ∷ ps)
+    go true b h = omega arith
+    go false true h = omega arith
+    go false false h = omega (arith, h)
+
+id-few : (has : Bool) (ts : List Token) → length (idRead has ts .rows) ≤ 1
+unfolding idRead
+id-few has [] = omega arith
+id-few true (t ∷ ts) = omega arith
+id-few false (t ∷ ts) = omega arith
+
+less-first-few : (ts : List Token) → length (lessFirst ts) ≤ length ts
+less-first-few [] = omega arith
+less-first-few (t ∷ ts) = omega arith
+
+less-space-few : (ts : List Token) → length (lessSpace ts) ≤ length ts
+less-space-few [] = omega arith
+less-space-few (t ∷ ts) = go (isWhitespace t)
+  where
+    go : (b : Bool) → length (cond b ts (t ∷ ts)) ≤ length (t ∷ ts)
+    go true = omega arith
+    go false = omega arith
+
+value-few : (ts : List Token) → length (valueTokens ts) ≤ length ts
+unfolding valueTokens value
+value-few ts =
+    omega (arith, onward-length isEquals ts, less-first-few (onward isEquals ts), less-space-few (lessFirst (onward isEquals ts)), quoted-shorter (lessSpace (lessFirst (onward isEquals ts))))
+
+module _ (f : List Token → Read) (few : (tail : List Token) → length (f tail .rows) ≤ orOne (length tail)) (has : Bool) where
+  cut-few : (before tail : List Token) → (tail ≡ [] → ⊥) → length (cutRead f has before tail .rows) ≤ orOne (length before + length tail)
+  unfolding cutRead
+  cut-few [] [] none = absurd (none refl)
+  cut-few [] (t ∷ ts) none = or-one (length {A = Token} [] + length (t ∷ ts)) .1
+  cut-few (t ∷ ts) [] none = absurd (none refl)
+  cut-few (t ∷ ts) (u ∷ us) none = omega (arith, few (u ∷ us), or-one (length (t ∷ ts) + length (u ∷ us)) .0)
+
+  named-few : (a : Name) (name value : List Token) (n : ℕ) → length value ≤ n → length (irRead f has (namedIr a name value) .rows) ≤ orOne n
+  unfolding irRead namedIr
+  named-few asks.Options name value n h = omega (arith, group-few Rattle.row.specs.Row.option isComma value, h, or-one n .0)
+  named-few asks.Role name value n h = omega (arith, group-few Rattle.row.specs.Row.role isWhitespace value, h, or-one n .0)
+  named-few asks.Id name value n h = omega (arith, id-few has value, or-one n .1)
+  named-few asks.Plain name value n h = or-one n .1
+  named-few asks.Other name value n h = or-one n .1
+
+  positional-few : (us : List Token) (cut : Bool) (n : ℕ) → length us ≤ n → (cut ≡ true → onward isSymbol us ≡ [] → ⊥) → length (irRead f has (is.positional us cut) .rows) ≤ orOne n
+  unfolding irRead
+  positional-few us true n h none =
+      let e : orOne (length (upTo isSymbol us) + length (onward isSymbol us)) ≤ orOne n = or-one-more (length (upTo isSymbol us) + length (onward isSymbol us)) n (omega (arith, cut-length isSymbol us)) in
+      omega (arith, cut-few (upTo isSymbol us) (onward isSymbol us) (none refl), e)
+  positional-few us false n h none = or-one n .1
+
+  as-few : (block : Bool) (ts : List Token) (r : Reading) → look block true false ts ≡ r → length (irRead f has (irAs block ts r) .rows) ≤ orOne (length ts)
+  unfolding irRead irAs keyValueIr
+  as-few block ts Shorthand e = omega (arith, shorthand-few has (pieces ts), pieces-few ts, or-one (length ts) .0)
+  as-few block ts (Positional n) e =
+      positional-few (unquote ts) (n && block && not (quoted ts)) (length ts) (quoted-shorter ts)
+      (λ c g. cut-has-symbol block ts (unquote ts) (ir-as block ts (Positional n) e ∙ ap (is.positional (unquote ts)) c) g)
+  as-few block ts Named e = named-few (nameOf (Rattle.token.specs.Names.bytes (nameTokens ts))) (nameTokens ts) (valueTokens ts) (length ts) (value-few ts)
+
+reading-few : (f : List Token → Read) → ((tail : List Token) → length (f tail .rows) ≤ orOne (length tail)) → (block has : Bool) (ts : List Token) → length (reading f block has ts .rows) ≤ orOne (length ts)
+unfolding reading attrIr
+reading-few f few block has [] = omega arith
+reading-few f few block has (t ∷ ts) = as-few f few has block (t ∷ ts) (look block true false (t ∷ ts)) refl
+
+in-few : (most : ℕ) (block has : Bool) (ts : List Token) → length (attributeIn most block has ts .rows) ≤ orOne (length ts)
+unfolding attributeIn
+in-few zero block has ts = omega arith
+in-few (suc most) block has ts =
+    let e : orOne (length (trim ts)) ≤ orOne (length ts) = or-one-more (length (trim ts)) (length ts) (trim-length ts) in
+    omega (arith, e, reading-few (λ tail. attributeIn most block has tail) (λ tail. in-few most block has tail) block has (trim ts))
+
+pub rows-few : (block has : Bool) (ts : List Token) → length (attribute block has ts .rows) ≤ orOne (length ts)
+unfolding attribute
+rows-few block has ts = in-few (suc (length ts)) block has ts

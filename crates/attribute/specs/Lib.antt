@@ -1,3 +1,4 @@
 pub mod Attribute
 pub mod Laws
 pub mod Parts
+pub mod Bench

@@ -1,7 +1,9 @@
 // The groups of options and roles.
-use row::{one_run, put_row};
-use token::runs::{find_kind, trim};
+use row::one_run;
+use row::put_row;
 use token::TokenPlace;
+use token::runs::find_kind;
+use token::runs::trim;
 ghost use mathlib.Core.Path.{_≡_};
 ghost use mathlib.Core.List.{List, []};
 ghost use Prim.Native.Nat.{ℕ, _+_, _*_, _-_, _≤_, _<_};

@@ -1,14 +1,27 @@
 // One attribute: its rows.
-use attr_ir::{attr_ir, AttrIr};
+use attr_ir::AttrIr;
+use attr_ir::attr_ir;
 use groups::push_attr_groups;
-use row::tag::{EMPTY_POSITIONAL, NAMED, OPTION, PLAIN, POSITIONAL, ROLE};
-use row::{one_run, put_row, Row};
+use row::Row;
+use row::one_run;
+use row::put_row;
+use row::tag::EMPTY_POSITIONAL;
+use row::tag::NAMED;
+use row::tag::OPTION;
+use row::tag::PLAIN;
+use row::tag::POSITIONAL;
+use row::tag::ROLE;
 use shorthand::push_shorthand;
-use single::{put_diagnostic, put_id, put_one};
+use single::put_diagnostic;
+use single::put_id;
+use single::put_one;
 use symbols::find_symbol;
-use token::kind::{COMMA, WHITESPACE};
-use token::runs::{run_of, trim};
-use token::{Run, TokenPlace};
+use token::Run;
+use token::TokenPlace;
+use token::kind::COMMA;
+use token::kind::WHITESPACE;
+use token::runs::run_of;
+use token::runs::trim;
 ghost use mathlib.Core.Path.{_≡_};
 ghost use Prim.Native.Nat.{_+_, _*_, _-_, _≤_, _<_};
 ghost use lib.ListN.{length};
@@ -137,10 +150,6 @@ fn cut_positional<'a, 'b>(
     if symbol.0 <= from.0 {
         return put_diagnostic(rows, at, symbol, 2, has);
     }
-    put_row(
-        rows,
-        at,
-        one_run(POSITIONAL, run_of(kinds, from, symbol)),
-    );
+    put_row(rows, at, one_run(POSITIONAL, run_of(kinds, from, symbol)));
     parse_attr(kinds, text, pairs, symbol, to, block, has, rows, at + 1)
 }

@@ -1,12 +1,18 @@
 // Shorthand: each symbol takes tokens up to the next.
-use super::single::put_diagnostic;
 use super::Written;
-use row::tag::{ID, OPTION, ROLE};
-use row::{one_run, put_row};
-use token::kind::{DOTS, HASH, PERCENT};
-use token::line::length_of;
-use token::runs::{first_kept, run_of};
+use super::single::put_diagnostic;
+use row::one_run;
+use row::put_row;
+use row::tag::ID;
+use row::tag::OPTION;
+use row::tag::ROLE;
 use token::TokenPlace;
+use token::kind::DOTS;
+use token::kind::HASH;
+use token::kind::PERCENT;
+use token::line::length_of;
+use token::runs::first_kept;
+use token::runs::run_of;
 ghost use mathlib.Core.Path.{_≡_};
 ghost use mathlib.Core.List.{List};
 ghost use mathlib.Core.Bool.{cond, _&&_, _||_};

@@ -1,8 +1,12 @@
 // Rows that stand alone.
 use super::Written;
-use row::tag::{DIAGNOSTIC, ID};
-use row::{one_run, put_row, Row};
-use token::{Run, TokenPlace};
+use row::Row;
+use row::one_run;
+use row::put_row;
+use row::tag::DIAGNOSTIC;
+use row::tag::ID;
+use token::Run;
+use token::TokenPlace;
 ghost use mathlib.Core.Path.{_≡_};
 ghost use mathlib.Core.List.{List};
 ghost use Prim.Native.Nat.{_+_, _*_, _≤_, _<_};
@@ -23,7 +27,13 @@ pub fn put_one(rows: &mut [u32], at: usize, row: Row, id: bool) -> Written
 }
 
 // Writes a diagnostic.
-pub fn put_diagnostic(rows: &mut [u32], at: usize, place: TokenPlace, number: usize, id: bool) -> Written
+pub fn put_diagnostic(
+    rows: &mut [u32],
+    at: usize,
+    place: TokenPlace,
+    number: usize,
+    id: bool,
+) -> Written
     requires { ⌜ (width * at + width ≤ length (now rows)) × small (place .0) × small number ⌝ }
     ensures { λ r. ⌜ WroteId (now (rows .entry)) at (oneRow id (diagnostic (place .0) number)) (now (rows .exit)) r ⌝ }
 {

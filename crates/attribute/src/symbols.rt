@@ -1,6 +1,8 @@
 // Where a positional is cut.
-use token::kind::{DOTS, HASH, PERCENT};
 use token::TokenPlace;
+use token::kind::DOTS;
+use token::kind::HASH;
+use token::kind::PERCENT;
 ghost use Prim.Native.Nat.{_≤_};
 ghost use lib.ListN.{length};
 ghost use Rattle.token.specs.Parts.{FoundAt};

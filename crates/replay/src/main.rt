@@ -2,10 +2,12 @@
 // line, as decimal numbers; the answers that the Rust gave to them are in `stdout`. Both files
 // are made by `compare/record`, which says what each number means.
 mod input;
+mod sets;
 
 use input::bytes;
 use input::number;
 use input::numbers;
+use sets::replay_set;
 
 fn write_number(n: usize) {
     io::print_decimal(1, n as u64);
@@ -71,11 +73,18 @@ fn replay_line(recorded: &[u8], entry: u64, start: usize) -> usize {
     t.next
 }
 
+fn replay_call(recorded: &[u8], entry: u64, start: usize) -> usize {
+    if entry < 6 {
+        return replay_line(recorded, entry, start);
+    }
+    replay_set(recorded, entry, start)
+}
+
 fn replay(recorded: &[u8]) {
     let mut at: usize = 0;
     while at < recorded.len() {
         let entry = number(recorded, at);
-        let next = replay_line(recorded, entry.value, entry.next);
+        let next = replay_call(recorded, entry.value, entry.next);
         if next <= at {
             return;
         }

@@ -47,6 +47,12 @@ diagnostic p n = oneRun 7 (run p n)
 abbrev pub plain : (name value : Run) → Row
 plain = twoRuns 8
 
+-- the tags of these rows, in this order
+abbrev pub tags : List ℕ
+tags =
+    emptyPositional .tag ∷ positional emptyRun .tag ∷ named emptyRun emptyRun .tag ∷ ident emptyRun .tag ∷ role emptyRun .tag ∷ option emptyRun .tag ∷ diagnostic 0 0 .tag
+    ∷ plain emptyRun emptyRun .tag ∷ []
+
 -- the numbers of some rows, one row after the other
 unfoldable pub allNumbers : List Row → List ℕ
 allNumbers [] = []

@@ -1,4 +1,6 @@
 // What C and Rust link. Each function restates, in its own numbers, the contract of what it calls.
+mod subs;
+
 use token::BlockLine;
 ghost use mathlib.Core.Path.{_≡_};
 ghost use Rattle.token.specs.Line.{lineOf};

@@ -1,5 +1,7 @@
 -- "Kinds are 0 to 50 in the order of `TokenKind`": the kinds by the Rust's names.
 use Prim.Native.Nat.{ℕ}
+use mathlib.Core.Path.{_≡_, refl}
+use mathlib.Core.List.{List, [], _∷_}
 
 abbrev pub ampersand : ℕ
 ampersand = 0
@@ -157,3 +159,62 @@ word = 50
 -- the largest of them
 abbrev pub largest : ℕ
 largest = word
+
+-- every kind, in the order of `TokenKind`: their numbers are their places in it
+abbrev pub order : List ℕ
+order =
+    ampersand
+    ∷ attrDef
+    ∷ attrPassDbl
+    ∷ attrRef
+    ∷ backtick
+    ∷ backslash
+    ∷ bang
+    ∷ calloutNumber
+    ∷ caret
+    ∷ closeBrace
+    ∷ closeBracket
+    ∷ closeParens
+    ∷ colon
+    ∷ comma
+    ∷ dashes
+    ∷ delimiterLine
+    ∷ digits
+    ∷ directive
+    ∷ discard
+    ∷ doubleQuote
+    ∷ dots
+    ∷ email
+    ∷ entity
+    ∷ equalSigns
+    ∷ eof
+    ∷ forwardSlashes
+    ∷ greaterThan
+    ∷ hash
+    ∷ lessThan
+    ∷ macroName
+    ∷ maybeEmail
+    ∷ newline
+    ∷ noBreakSpace
+    ∷ openBrace
+    ∷ openBracket
+    ∷ openParens
+    ∷ percent
+    ∷ pipe
+    ∷ plus
+    ∷ preprocPassthru
+    ∷ punctuation
+    ∷ questionMark
+    ∷ semiColon
+    ∷ singleQuote
+    ∷ star
+    ∷ termDelimiter
+    ∷ tilde
+    ∷ underscore
+    ∷ uriScheme
+    ∷ whitespace
+    ∷ word
+    ∷ []
+
+pub order-counts : order ≡ 0 ∷ 1 ∷ 2 ∷ 3 ∷ 4 ∷ 5 ∷ 6 ∷ 7 ∷ 8 ∷ 9 ∷ 10 ∷ 11 ∷ 12 ∷ 13 ∷ 14 ∷ 15 ∷ 16 ∷ 17 ∷ 18 ∷ 19 ∷ 20 ∷ 21 ∷ 22 ∷ 23 ∷ 24 ∷ 25 ∷ 26 ∷ 27 ∷ 28 ∷ 29 ∷ 30 ∷ 31 ∷ 32 ∷ 33 ∷ 34 ∷ 35 ∷ 36 ∷ 37 ∷ 38 ∷ 39 ∷ 40 ∷ 41 ∷ 42 ∷ 43 ∷ 44 ∷ 45 ∷ 46 ∷ 47 ∷ 48 ∷ 49 ∷ 50 ∷ []
+order-counts = refl

@@ -1,4 +1,7 @@
 // The token kinds by their numbers: 0 to 50, in the order of `TokenKind`.
+ghost use mathlib.Core.Path.{_≡_};
+ghost use Rattle.token.specs.Kind.{order};
+
 pub const AMPERSAND: u8 = 0;
 
 pub const ATTR_DEF: u8 = 1;
@@ -100,3 +103,62 @@ pub const URI_SCHEME: u8 = 48;
 pub const WHITESPACE: u8 = 49;
 
 pub const WORD: u8 = 50;
+
+// Every kind, in the order of `TokenKind`.
+pub fn all() -> [u8; 51]
+    ensures { λ r. ⌜ r ≡ order ⌝ }
+{
+    [
+        AMPERSAND,
+        ATTR_DEF,
+        ATTR_PASS_DBL,
+        ATTR_REF,
+        BACKTICK,
+        BACKSLASH,
+        BANG,
+        CALLOUT_NUMBER,
+        CARET,
+        CLOSE_BRACE,
+        CLOSE_BRACKET,
+        CLOSE_PARENS,
+        COLON,
+        COMMA,
+        DASHES,
+        DELIMITER_LINE,
+        DIGITS,
+        DIRECTIVE,
+        DISCARD,
+        DOUBLE_QUOTE,
+        DOTS,
+        EMAIL,
+        ENTITY,
+        EQUAL_SIGNS,
+        EOF,
+        FORWARD_SLASHES,
+        GREATER_THAN,
+        HASH,
+        LESS_THAN,
+        MACRO_NAME,
+        MAYBE_EMAIL,
+        NEWLINE,
+        NO_BREAK_SPACE,
+        OPEN_BRACE,
+        OPEN_BRACKET,
+        OPEN_PARENS,
+        PERCENT,
+        PIPE,
+        PLUS,
+        PREPROC_PASSTHRU,
+        PUNCTUATION,
+        QUESTION_MARK,
+        SEMI_COLON,
+        SINGLE_QUOTE,
+        STAR,
+        TERM_DELIMITER,
+        TILDE,
+        UNDERSCORE,
+        URI_SCHEME,
+        WHITESPACE,
+        WORD,
+    ]
+}

@@ -12,6 +12,13 @@ use borrow.Author.Tests.{eq-eqb, ne-eqb, lt-ltb, le-ltb, le-leb, lt-leb}
 use Prim.Native.Nat.{ℕ, _<_}
 use borrow.Fn.Kinds.{In}
 use borrow.Fn.PlainCycle.{Measures, is, falls, and}
+use Rattle.attribute.proofs.Whole.{all-told, wrote-told, whole-empty, whole-ir, id-run, whole-positional, whole-cut, cut-some, whole-named, whole-plain, whole-options, whole-roles, whole-id, whole-shorthand, whole-stops, cut-none, cut-later, in-own, id-few}
+use Rattle.attribute.specs.Parts.{written, WroteId}
+use Rattle.attribute.specs.Attribute.{Read, attribute}
+use Rattle.attr_ir.specs.Parts.{InLine, Bounded}
+use Rattle.attr_ir.specs.declared.AttrIr.{AttrIr}
+use Rattle.row.specs.Row.{Fits, withRows}
+use Rattle.row.specs.declared.Row.{Row}
 use Rattle.attribute.proofs.cut_positional.Reads as cut-positional
 use Rattle.attribute.proofs.cut_positional.Kinds as cut-positional-kinds
 use Rattle.attribute.proofs.+cut_positional+parse_attr.Lts-cut_positional as cut-positional-lts
@@ -33,10 +40,10 @@ use Rattle.attribute.proofs.+cut_positional+parse_attr.{statement}
 use Rattle.attribute.proofs.+cut_positional+parse_attr.Tie.{close}
 
 abbrev μ-cut-positional : Measures 2 cut-positional-kinds.ps ℕ
-μ-cut-positional κs a = ?
+μ-cut-positional κs a = 2 * a .1 .1 .1 .0 .count
 
 abbrev μ-parse-attr : Measures 2 parse-attr-kinds.ps ℕ
-μ-parse-attr κs a = ?
+μ-parse-attr κs a = 2 * (a .1 .1 .1 .1 .0 .0 - a .1 .1 .1 .0 .0) + 1
 
 abbrev cut-positional-at : ℕ → In 2 cut-positional-kinds.ps
 cut-positional-at t =
@@ -77,7 +84,7 @@ cut-positional-add-parse-attr : (t : ℕ) → cut-positional-lts.Need-add-parse-
   parse-attr-below t,
   parse-attr.Post,
 ) (cut-positional-at t) cut-positional.Post
-cut-positional-add-parse-attr t c = omega arith
+cut-positional-add-parse-attr t c = omega (arith, c .before .before .before .before .before .before .before .pre .1 .1 .0 .0, c .before .before .before .before .before .before .before .pre .1 .1 .0 .1, c .before .before .before .before .before .before .before .pre .1 .1 .1 .within, c .before .before .before .before .before .before .before .pre .1 .0 .few)
 
 -- src/lib.rt:136:9
 cut-positional-find-symbol-requires : (t : ℕ) → cut-positional-lts.Need-find-symbol-requires (
@@ -94,7 +101,7 @@ cut-positional-find-symbol-requires : (t : ℕ) → cut-positional-lts.Need-find
   parse-attr-below t,
   parse-attr.Post,
 ) (cut-positional-at t) cut-positional.Post
-cut-positional-find-symbol-requires t c κs = ?
+cut-positional-find-symbol-requires t c κs = (omega arith, omega (arith, c .before .before .before .before .before .before .before .pre .1 .1 .0 .0, c .before .before .before .before .before .before .before .pre .1 .1 .0 .1, c .before .before .before .before .before .before .before .pre .1 .1 .1 .within, c .before .before .before .before .before .before .before .pre .1 .0 .few))
 
 -- src/lib.rt:138:9
 cut-positional-put-diagnostic-requires : (t : ℕ) → cut-positional-lts.Need-put-diagnostic-requires (
@@ -111,7 +118,7 @@ cut-positional-put-diagnostic-requires : (t : ℕ) → cut-positional-lts.Need-p
   parse-attr-below t,
   parse-attr.Post,
 ) (cut-positional-at t) cut-positional.Post
-cut-positional-put-diagnostic-requires t c κs = ?
+cut-positional-put-diagnostic-requires t c κs = (omega (arith, c .before .before .before .before .before .before .before .before .before .before .before .before .pre .1 .1 .0 .0, c .before .before .before .before .before .before .before .before .before .before .before .before .pre .1 .1 .0 .1, c .before .before .before .before .before .before .before .before .before .before .before .before .pre .1 .1 .1 .within, c .before .before .before .before .before .before .before .before .before .before .before .before .pre .1 .0 .few), omega (arith, c .before .before .before .before .before .before .before .before .before .before .before .before .pre .1 .1 .0 .0, c .before .before .before .before .before .before .before .before .before .before .before .before .pre .1 .1 .0 .1, c .before .before .before .before .before .before .before .before .before .before .before .before .pre .1 .1 .1 .within, c .before .before .before .before .before .before .before .before .before .before .before .before .pre .1 .0 .few, c .before .before .before .before .find-symbol .ensures .high), omega arith)
 
 -- src/lib.rt:138:9
 cut-positional-same-length : (t : ℕ) → cut-positional-lts.Need-same-length (
@@ -128,7 +135,7 @@ cut-positional-same-length : (t : ℕ) → cut-positional-lts.Need-same-length (
   parse-attr-below t,
   parse-attr.Post,
 ) (cut-positional-at t) cut-positional.Post
-cut-positional-same-length t c = ?
+cut-positional-same-length t c = c .before .before .put-diagnostic .kept .0
 
 -- src/lib.rt:138:9
 cut-positional-returns : (t : ℕ) → cut-positional-lts.Need-returns (
@@ -145,7 +152,7 @@ cut-positional-returns : (t : ℕ) → cut-positional-lts.Need-returns (
   parse-attr-below t,
   parse-attr.Post,
 ) (cut-positional-at t) cut-positional.Post
-cut-positional-returns t c = ?
+cut-positional-returns t c = all-told _ _ _ _ _ _ _ (c .before .before .put-diagnostic .ensures) (cut-none (c .before .before .before .before .before .before .before .before .before .before .before .before .before .before .before .args .kinds .now) (c .before .before .before .before .before .before .before .before .before .before .before .before .before .before .before .args .text .now) (c .before .before .before .before .before .before .before .before .before .before .before .before .before .before .before .args .pairs .now) (c .before .before .before .before .before .before .before .before .before .before .before .before .before .before .before .args .run .place .0) (c .before .before .before .before .before .before .before .before .before .before .before .before .before .before .before .args .run .place .0 + c .before .before .before .before .before .before .before .before .before .before .before .before .before .before .before .args .run .count) (c .before .before .before .before .before .before .before .before .before .before .before .before .before .before .before .args .block) (c .before .before .before .before .before .before .before .before .before .before .before .before .before .before .before .args .has) (c .before .before .before .before .before .before .before .find-symbol .result .0) (c .before .before .before .before .before .before .before .find-symbol .ensures) (omega (arith, c .before .before .before .before .before .before .before .before .before .before .before .before .before .before .before .pre .1 .1 .0 .0)) (c .before .before .before .before .before .before .before .before .before .before .before .before .before .before .before .args .rows .now) (c .before .before .before .before .before .before .before .before .before .before .before .before .before .before .before .args .at) (c .before .before .before .before .if1 .taken)) (omega (arith, c .before .before .put-diagnostic .ensures .wrote .count))
 
 -- src/lib.rt:143:29
 cut-positional-run-of-requires : (t : ℕ) → cut-positional-lts.Need-run-of-requires (
@@ -162,7 +169,7 @@ cut-positional-run-of-requires : (t : ℕ) → cut-positional-lts.Need-run-of-re
   parse-attr-below t,
   parse-attr.Post,
 ) (cut-positional-at t) cut-positional.Post
-cut-positional-run-of-requires t c κs = ?
+cut-positional-run-of-requires t c κs = (omega arith, omega (arith, c .before .before .before .before .find-symbol .ensures .high, c .before .before .before .before .before .before .before .before .before .before .before .before .pre .1 .1 .1 .within))
 
 -- src/lib.rt:143:9
 cut-positional-one-run-requires : (t : ℕ) → cut-positional-lts.Need-one-run-requires (
@@ -179,7 +186,7 @@ cut-positional-one-run-requires : (t : ℕ) → cut-positional-lts.Need-one-run-
   parse-attr-below t,
   parse-attr.Post,
 ) (cut-positional-at t) cut-positional.Post
-cut-positional-one-run-requires t c κs = ?
+cut-positional-one-run-requires t c κs = tt
 
 -- src/lib.rt:140:5
 cut-positional-put-row-requires : (t : ℕ) → cut-positional-lts.Need-put-row-requires (
@@ -196,7 +203,7 @@ cut-positional-put-row-requires : (t : ℕ) → cut-positional-lts.Need-put-row-
   parse-attr-below t,
   parse-attr.Post,
 ) (cut-positional-at t) cut-positional.Post
-cut-positional-put-row-requires t c κs = ?
+cut-positional-put-row-requires t c κs = (omega (arith, c .before .before .before .before .before .before .before .before .before .before .before .before .before .before .pre .1 .1 .0 .0, c .before .before .before .before .before .before .before .before .before .before .before .before .before .before .pre .1 .1 .0 .1, c .before .before .before .before .before .before .before .before .before .before .before .before .before .before .pre .1 .1 .1 .within, c .before .before .before .before .before .before .before .before .before .before .before .before .before .before .pre .1 .0 .few), subst (λ (r : Row). Fits r) (sym (c .one-run .ensures)) (record { first-place = omega (arith, c .before .before .before .before .before .before .before .before .before .before .before .before .before .before .pre .1 .1 .0 .0, c .before .before .before .before .before .before .before .before .before .before .before .before .before .before .pre .1 .1 .0 .1, c .before .before .before .before .before .before .before .before .before .before .before .before .before .before .pre .1 .1 .1 .within, c .before .before .before .before .before .before .before .before .before .before .before .before .before .before .pre .1 .0 .few, c .before .run-of .ensures .1 .within, c .before .before .before .before .before .before .find-symbol .ensures .high); first-count = omega (arith, c .before .before .before .before .before .before .before .before .before .before .before .before .before .before .pre .1 .1 .0 .0, c .before .before .before .before .before .before .before .before .before .before .before .before .before .before .pre .1 .1 .0 .1, c .before .before .before .before .before .before .before .before .before .before .before .before .before .before .pre .1 .1 .1 .within, c .before .before .before .before .before .before .before .before .before .before .before .before .before .before .pre .1 .0 .few, c .before .run-of .ensures .1 .within, c .before .before .before .before .before .before .find-symbol .ensures .high); second-place = omega arith; second-count = omega arith }))
 
 -- src/lib.rt:145:66
 cut-positional-add-parse-attr-2 : (t : ℕ) → cut-positional-lts.Need-add-parse-attr-2 (
@@ -213,7 +220,7 @@ cut-positional-add-parse-attr-2 : (t : ℕ) → cut-positional-lts.Need-add-pars
   parse-attr-below t,
   parse-attr.Post,
 ) (cut-positional-at t) cut-positional.Post
-cut-positional-add-parse-attr-2 t c = omega arith
+cut-positional-add-parse-attr-2 t c = omega (arith, c .before .before .before .before .before .before .before .before .before .before .before .before .before .before .before .before .before .before .pre .1 .1 .0 .0, c .before .before .before .before .before .before .before .before .before .before .before .before .before .before .before .before .before .before .pre .1 .1 .0 .1, c .before .before .before .before .before .before .before .before .before .before .before .before .before .before .before .before .before .before .pre .1 .1 .1 .within, c .before .before .before .before .before .before .before .before .before .before .before .before .before .before .before .before .before .before .pre .1 .0 .few, c .before .before .before .before .before .before .before .before .before .before .before .before .before .before .before .before .before .before .good .1 .1 .1 .1 .1 .1 .0 .0)
 
 -- src/lib.rt:145:5
 cut-positional-parse-attr-requires : (t : ℕ) → cut-positional-lts.Need-parse-attr-requires (
@@ -230,7 +237,7 @@ cut-positional-parse-attr-requires : (t : ℕ) → cut-positional-lts.Need-parse
   parse-attr-below t,
   parse-attr.Post,
 ) (cut-positional-at t) cut-positional.Post
-cut-positional-parse-attr-requires t c κs = ?
+cut-positional-parse-attr-requires t c κs = (omega (arith, c .before .before .before .before .before .before .before .before .before .before .before .before .before .before .before .before .before .before .pre .0, c .before .before .before .before .before .before .before .if1 .left, c .before .before .before .before .before .before .before .before .before .before .before .before .before .before .before .before .before .before .pre .1 .1 .0 .0, c .before .before .before .before .before .before .before .before .before .before .before .before .before .before .before .before .before .before .pre .1 .1 .0 .1, c .before .before .before .before .before .before .before .before .before .before .before .before .before .before .before .before .before .before .pre .1 .1 .1 .within, c .before .before .before .before .before .before .before .before .before .before .before .before .before .before .before .before .before .before .pre .1 .0 .few, c .before .before .before .before .before .before .before .before .before .before .find-symbol .ensures .low, c .before .before .before .before .before .before .before .before .before .before .find-symbol .ensures .high), (c .before .before .before .before .before .before .before .before .before .before .before .before .before .before .before .before .before .before .pre .1 .0, (omega (arith, c .before .before .before .before .before .before .before .before .before .before .find-symbol .ensures .high), omega (arith, c .before .before .before .before .before .before .before .before .before .before .before .before .before .before .before .before .before .before .pre .1 .1 .0 .0, c .before .before .before .before .before .before .before .before .before .before .before .before .before .before .before .before .before .before .pre .1 .1 .0 .1, c .before .before .before .before .before .before .before .before .before .before .before .before .before .before .before .before .before .before .pre .1 .1 .1 .within, c .before .before .before .before .before .before .before .before .before .before .before .before .before .before .before .before .before .before .pre .1 .0 .few), omega (arith, c .before .before .before .before .before .before .before .before .before .before .before .before .before .before .before .before .before .before .pre .1 .1 .0 .0, c .before .before .before .before .before .before .before .before .before .before .before .before .before .before .before .before .before .before .pre .1 .1 .0 .1, c .before .before .before .before .before .before .before .before .before .before .before .before .before .before .before .before .before .before .pre .1 .1 .1 .within, c .before .before .before .before .before .before .before .before .before .before .before .before .before .before .before .before .before .before .pre .1 .0 .few, c .before .before .before .before .before .before .before .if1 .left, c .before .before .before .before .before .before .before .before .before .before .find-symbol .ensures .high, c .before .before .before .put-row .kept .0))))
 
 -- src/lib.rt:117:1
 cut-positional-same-length-2 : (t : ℕ) → cut-positional-lts.Need-same-length-2 (
@@ -247,7 +254,7 @@ cut-positional-same-length-2 : (t : ℕ) → cut-positional-lts.Need-same-length
   parse-attr-below t,
   parse-attr.Post,
 ) (cut-positional-at t) cut-positional.Post
-cut-positional-same-length-2 t c = ?
+cut-positional-same-length-2 t c = c .before .before .parse-attr .kept .1 .1 .1 .1 .1 .1 .1 .0 ∙ c .before .before .before .before .before .before .put-row .kept .0
 
 -- src/lib.rt:117:1
 cut-positional-returns-2 : (t : ℕ) → cut-positional-lts.Need-returns-2 (
@@ -264,7 +271,7 @@ cut-positional-returns-2 : (t : ℕ) → cut-positional-lts.Need-returns-2 (
   parse-attr-below t,
   parse-attr.Post,
 ) (cut-positional-at t) cut-positional.Post
-cut-positional-returns-2 t c = ?
+cut-positional-returns-2 t c = all-told _ _ _ _ _ _ _ (cut-later (c .before .before .before .before .before .before .before .before .before .before .before .before .before .before .before .before .before .before .before .before .before .args .kinds .now) (c .before .before .before .before .before .before .before .before .before .before .before .before .before .before .before .before .before .before .before .before .before .args .text .now) (c .before .before .before .before .before .before .before .before .before .before .before .before .before .before .before .before .before .before .before .before .before .args .pairs .now) (c .before .before .before .before .before .before .before .before .before .before .before .before .before .before .before .before .before .before .before .before .before .args .run .place .0) (c .before .before .before .before .before .before .before .before .before .before .before .before .before .before .before .before .before .before .before .before .before .args .run .place .0 + c .before .before .before .before .before .before .before .before .before .before .before .before .before .before .before .before .before .before .before .before .before .args .run .count) (c .before .before .before .before .before .before .before .before .before .before .before .before .before .before .before .before .before .before .before .before .before .args .block) (c .before .before .before .before .before .before .before .before .before .before .before .before .before .before .before .before .before .before .before .before .before .args .has) (c .before .before .before .before .before .before .before .before .before .before .before .before .before .find-symbol .result .0) (c .before .before .before .before .before .before .before .before .before .before .before .before .before .find-symbol .ensures) (omega (arith, c .before .before .before .before .before .before .before .before .before .before .before .before .before .before .before .before .before .before .before .before .before .pre .1 .1 .0 .0)) (c .before .before .before .before .before .before .before .before .before .before .before .before .before .before .before .before .before .before .before .before .before .args .rows .now) (c .before .before .before .before .before .before .before .before .before .before .before .before .before .before .before .before .before .before .before .before .before .args .at) (c .before .before .before .before .before .before .before .before .before .before .if1 .left) (c .before .before .before .before .before .before .before .before .before .before .before .before .before .before .before .before .before .before .before .before .before .pre .1 .1 .1 .ends .first (omega (arith, c .before .before .before .before .before .before .before .before .before .before .before .before .before .before .before .before .before .before .before .before .before .pre .1 .1 .0 .0))) _ (c .before .before .before .before .before .before .before .before .run-of .ensures .0 _ _) _ (c .before .before .before .before .before .before .before .one-run .ensures) _ (c .before .before .before .before .before .before .put-row .ensures) _ _ (wrote-told _ _ _ _ _ (c .before .before .parse-attr .ensures .0) (c .before .before .parse-attr .ensures .1 .0))) refl (omega (arith, c .before .before .parse-attr .ensures .1 .1, c .before .before .before .before .before .before .before .before .before .before .before .before .before .before .before .before .before .before .before .before .before .pre .1 .1 .0 .0, c .before .before .before .before .before .before .before .before .before .before .before .before .before .before .before .before .before .before .before .before .before .pre .1 .1 .0 .1, c .before .before .before .before .before .before .before .before .before .before .before .before .before .before .before .before .before .before .before .before .before .pre .1 .1 .1 .within, c .before .before .before .before .before .before .before .before .before .before .before .before .before .before .before .before .before .before .before .before .before .pre .1 .0 .few, c .before .before .before .before .before .before .before .before .before .before .if1 .left, c .before .before .before .before .before .before .before .before .before .before .before .before .before .find-symbol .ensures .high))
 
 -- src/lib.rt:54:9
 parse-attr-trim-requires : (t : ℕ) → parse-attr-lts.Need-trim-requires (
@@ -285,7 +292,7 @@ parse-attr-trim-requires : (t : ℕ) → parse-attr-lts.Need-trim-requires (
   push-shorthand-reads.Asked,
   push-shorthand-reads.Learnt,
 ) (parse-attr-at t) parse-attr.Post
-parse-attr-trim-requires t c κs = ?
+parse-attr-trim-requires t c κs = (c .before .before .before .before .pre .1 .1 .0, c .before .before .before .before .pre .1 .1 .1)
 
 -- src/lib.rt:57:34
 parse-attr-one-run-requires : (t : ℕ) → parse-attr-lts.Need-one-run-requires (
@@ -306,7 +313,7 @@ parse-attr-one-run-requires : (t : ℕ) → parse-attr-lts.Need-one-run-requires
   push-shorthand-reads.Asked,
   push-shorthand-reads.Learnt,
 ) (parse-attr-at t) parse-attr.Post
-parse-attr-one-run-requires t c κs = ?
+parse-attr-one-run-requires t c κs = tt
 
 -- src/lib.rt:57:9
 parse-attr-put-one-requires : (t : ℕ) → parse-attr-lts.Need-put-one-requires (
@@ -327,7 +334,7 @@ parse-attr-put-one-requires : (t : ℕ) → parse-attr-lts.Need-put-one-requires
   push-shorthand-reads.Asked,
   push-shorthand-reads.Learnt,
 ) (parse-attr-at t) parse-attr.Post
-parse-attr-put-one-requires t c κs = ?
+parse-attr-put-one-requires t c κs = (omega (arith, c .before .before .before .before .before .before .before .before .pre .1 .1 .2), subst (λ (r : Row). Fits r) (sym (c .one-run .ensures)) (record { first-place = omega (arith, c .before .before .before .before .before .before .before .before .pre .1 .1 .0, c .before .before .before .before .before .before .before .before .pre .1 .1 .1, c .before .before .before .before .before .before .before .before .pre .1 .1 .2, c .before .before .before .before .before .before .before .before .pre .1 .0 .few, c .before .before .before .trim .ensures .1 .within, c .before .before .before .trim .ensures .1 .few, c .before .before .before .trim .ensures .1 .within); first-count = omega (arith, c .before .before .before .before .before .before .before .before .pre .1 .1 .0, c .before .before .before .before .before .before .before .before .pre .1 .1 .1, c .before .before .before .before .before .before .before .before .pre .1 .1 .2, c .before .before .before .before .before .before .before .before .pre .1 .0 .few, c .before .before .before .trim .ensures .1 .within, c .before .before .before .trim .ensures .1 .few, c .before .before .before .trim .ensures .1 .within); second-place = omega arith; second-count = omega arith }))
 
 -- src/lib.rt:57:9
 parse-attr-same-length : (t : ℕ) → parse-attr-lts.Need-same-length (
@@ -348,7 +355,7 @@ parse-attr-same-length : (t : ℕ) → parse-attr-lts.Need-same-length (
   push-shorthand-reads.Asked,
   push-shorthand-reads.Learnt,
 ) (parse-attr-at t) parse-attr.Post
-parse-attr-same-length t c = ?
+parse-attr-same-length t c = c .before .before .put-one .kept .0
 
 -- src/lib.rt:57:9
 parse-attr-returns : (t : ℕ) → parse-attr-lts.Need-returns (
@@ -369,7 +376,7 @@ parse-attr-returns : (t : ℕ) → parse-attr-lts.Need-returns (
   push-shorthand-reads.Asked,
   push-shorthand-reads.Learnt,
 ) (parse-attr-at t) parse-attr.Post
-parse-attr-returns t c = ?
+parse-attr-returns t c = all-told _ _ _ _ _ _ _ (c .before .before .put-one .ensures) (whole-empty (c .before .before .before .before .before .before .before .before .before .before .before .args .kinds .now) (c .before .before .before .before .before .before .before .before .before .before .before .args .text .now) (c .before .before .before .before .before .before .before .before .before .before .before .args .pairs .now) (c .before .before .before .before .before .before .before .before .before .before .before .args .from .0) (c .before .before .before .before .before .before .before .before .before .before .before .args .to .0) (c .before .before .before .before .before .before .before .before .before .before .before .args .block) (c .before .before .before .before .before .before .before .before .before .before .before .args .has) (c .before .before .before .before .before .before .trim .result) (c .before .before .before .before .before .before .trim .ensures .0) (c .before .before .before .before .before .before .trim .ensures .1) (c .before .before .before .before .before .if1 .taken) _ (c .before .before .before .one-run .ensures)) (omega (arith, c .before .before .put-one .ensures .wrote .count))
 
 -- src/lib.rt:65:20
 parse-attr-add-t36 : (t : ℕ) → parse-attr-lts.Need-add-t36 (
@@ -390,7 +397,7 @@ parse-attr-add-t36 : (t : ℕ) → parse-attr-lts.Need-add-t36 (
   push-shorthand-reads.Asked,
   push-shorthand-reads.Learnt,
 ) (parse-attr-at t) parse-attr.Post
-parse-attr-add-t36 t c = omega arith
+parse-attr-add-t36 t c = omega (arith, c .before .before .before .before .before .before .before .before .pre .1 .1 .0, c .before .before .before .before .before .before .before .before .pre .1 .1 .1, c .before .before .before .before .before .before .before .before .pre .1 .1 .2, c .before .before .before .before .before .before .before .before .pre .1 .0 .few, c .before .before .before .trim .ensures .1 .within, c .before .before .before .trim .ensures .1 .few)
 
 -- src/lib.rt:60:9
 parse-attr-attr-ir-requires : (t : ℕ) → parse-attr-lts.Need-attr-ir-requires (
@@ -411,7 +418,7 @@ parse-attr-attr-ir-requires : (t : ℕ) → parse-attr-lts.Need-attr-ir-requires
   push-shorthand-reads.Asked,
   push-shorthand-reads.Learnt,
 ) (parse-attr-at t) parse-attr.Post
-parse-attr-attr-ir-requires t c κs = ?
+parse-attr-attr-ir-requires t c κs = (c .before .before .before .before .before .before .before .before .pre .1 .0, (omega arith, omega (arith, c .before .before .before .before .before .before .before .before .pre .1 .1 .0, c .before .before .before .before .before .before .before .before .pre .1 .1 .1, c .before .before .before .before .before .before .before .before .pre .1 .1 .2, c .before .before .before .before .before .before .before .before .pre .1 .0 .few, c .before .before .before .trim .ensures .1 .within, c .before .before .before .trim .ensures .1 .few)))
 
 -- src/lib.rt:69:30
 parse-attr-enum-known-ir : (t : ℕ) → parse-attr-lts.Need-enum-known-ir (
@@ -432,7 +439,7 @@ parse-attr-enum-known-ir : (t : ℕ) → parse-attr-lts.Need-enum-known-ir (
   push-shorthand-reads.Asked,
   push-shorthand-reads.Learnt,
 ) (parse-attr-at t) parse-attr.Post
-parse-attr-enum-known-ir t c = ?
+parse-attr-enum-known-ir t c = c .match .keys1
 
 -- src/lib.rt:71:17
 parse-attr-cut-positional-requires : (t : ℕ) → parse-attr-lts.Need-cut-positional-requires (
@@ -453,7 +460,7 @@ parse-attr-cut-positional-requires : (t : ℕ) → parse-attr-lts.Need-cut-posit
   push-shorthand-reads.Asked,
   push-shorthand-reads.Learnt,
 ) (parse-attr-at t) parse-attr.Post
-parse-attr-cut-positional-requires t c κs = ?
+parse-attr-cut-positional-requires t c κs = (omega (arith, c .before .before .before .before .before .before .before .before .before .before .before .before .before .before .pre .0, c .before .before .before .before .before .before .before .before .before .before .before .before .before .before .pre .1 .1 .0, c .before .before .before .before .before .before .before .before .before .before .before .before .before .before .pre .1 .1 .1, c .before .before .before .before .before .before .before .before .before .before .before .before .before .before .pre .1 .1 .2, c .before .before .before .before .before .before .before .before .before .before .before .before .before .before .pre .1 .0 .few, c .before .before .before .before .before .before .before .before .before .trim .ensures .1 .within, c .before .before .before .before .before .before .before .before .before .trim .ensures .1 .few, (subst (λ (x : AttrIr). Bounded (c .before .before .before .before .before .before .before .before .before .before .before .before .before .before .args .kinds .now) (c .before .before .before .before .before .before .before .before .before .trim .result .place .0) (c .before .before .before .before .before .before .before .before .before .trim .result .place .0 + c .before .before .before .before .before .before .before .before .before .trim .result .count) x) (c .before .before .before .ir .given .1) (c .before .before .before .before .before .attr-ir .ensures .1 .1)) .few), (c .before .before .before .before .before .before .before .before .before .before .before .before .before .before .pre .1 .0, ((cut-some (c .before .before .before .before .before .before .before .before .before .before .before .before .before .before .args .kinds .now) (c .before .before .before .before .before .before .before .before .before .before .before .before .before .before .args .text .now) (c .before .before .before .before .before .before .before .before .before .before .before .before .before .before .args .pairs .now) (c .before .before .before .before .before .before .before .before .before .before .before .before .before .before .args .from .0) (c .before .before .before .before .before .before .before .before .before .before .before .before .before .before .args .to .0) (c .before .before .before .before .before .before .before .before .before .before .before .before .before .before .args .block) (c .before .before .before .before .before .before .before .before .before .before .before .before .before .before .args .has) (c .before .before .before .before .before .before .before .before .before .trim .result) (c .before .before .before .before .before .before .before .before .before .trim .ensures .0) (c .before .before .before .before .before .before .before .before .before .trim .ensures .1) (c .before .before .before .before .before .before .before .before .if1 .left) (c .before .before .before .before .before .attr-ir .result) (c .before .before .before .before .before .attr-ir .ensures .1 .0) (c .before .before .before .ir .given .0 .0) (c .before .before .before .ir .given .0 .1 .0) (c .before .before .before .ir .given .1) (c .before .if2 .taken), omega (arith, c .before .before .before .before .before .before .before .before .before .before .before .before .before .before .pre .1 .1 .0, c .before .before .before .before .before .before .before .before .before .before .before .before .before .before .pre .1 .1 .1, c .before .before .before .before .before .before .before .before .before .before .before .before .before .before .pre .1 .1 .2, c .before .before .before .before .before .before .before .before .before .before .before .before .before .before .pre .1 .0 .few, c .before .before .before .before .before .before .before .before .before .trim .ensures .1 .within, c .before .before .before .before .before .before .before .before .before .trim .ensures .1 .few, (subst (λ (x : AttrIr). Bounded (c .before .before .before .before .before .before .before .before .before .before .before .before .before .before .args .kinds .now) (c .before .before .before .before .before .before .before .before .before .trim .result .place .0) (c .before .before .before .before .before .before .before .before .before .trim .result .place .0 + c .before .before .before .before .before .before .before .before .before .trim .result .count) x) (c .before .before .before .ir .given .1) (c .before .before .before .before .before .attr-ir .ensures .1 .1)) .few)), in-own _ _ _ _ (subst (λ (x : AttrIr). Bounded (c .before .before .before .before .before .before .before .before .before .before .before .before .before .before .args .kinds .now) (c .before .before .before .before .before .before .before .before .before .trim .result .place .0) (c .before .before .before .before .before .before .before .before .before .trim .result .place .0 + c .before .before .before .before .before .before .before .before .before .trim .result .count) x) (c .before .before .before .ir .given .1) (c .before .before .before .before .before .attr-ir .ensures .1 .1)) (omega (arith, c .before .before .before .before .before .before .before .before .before .before .before .before .before .before .pre .1 .1 .0, c .before .before .before .before .before .before .before .before .before .before .before .before .before .before .pre .1 .1 .1, c .before .before .before .before .before .before .before .before .before .before .before .before .before .before .pre .1 .1 .2, c .before .before .before .before .before .before .before .before .before .before .before .before .before .before .pre .1 .0 .few, c .before .before .before .before .before .before .before .before .before .trim .ensures .1 .within, c .before .before .before .before .before .before .before .before .before .trim .ensures .1 .few)))))
 
 -- src/lib.rt:71:17
 parse-attr-same-length-2 : (t : ℕ) → parse-attr-lts.Need-same-length-2 (
@@ -474,7 +481,7 @@ parse-attr-same-length-2 : (t : ℕ) → parse-attr-lts.Need-same-length-2 (
   push-shorthand-reads.Asked,
   push-shorthand-reads.Learnt,
 ) (parse-attr-at t) parse-attr.Post
-parse-attr-same-length-2 t c = ?
+parse-attr-same-length-2 t c = c .before .before .cut-positional .kept .1 .1 .1 .1 .1 .1 .0
 
 -- src/lib.rt:71:17
 parse-attr-returns-2 : (t : ℕ) → parse-attr-lts.Need-returns-2 (
@@ -495,7 +502,7 @@ parse-attr-returns-2 : (t : ℕ) → parse-attr-lts.Need-returns-2 (
   push-shorthand-reads.Asked,
   push-shorthand-reads.Learnt,
 ) (parse-attr-at t) parse-attr.Post
-parse-attr-returns-2 t c = ?
+parse-attr-returns-2 t c = (c .before .before .cut-positional .ensures .0 ∙ ap (written (c .before .before .before .before .before .before .before .before .before .before .before .before .before .before .before .before .before .args .at)) (whole-cut (c .before .before .before .before .before .before .before .before .before .before .before .before .before .before .before .before .before .args .kinds .now) (c .before .before .before .before .before .before .before .before .before .before .before .before .before .before .before .before .before .args .text .now) (c .before .before .before .before .before .before .before .before .before .before .before .before .before .before .before .before .before .args .pairs .now) (c .before .before .before .before .before .before .before .before .before .before .before .before .before .before .before .before .before .args .from .0) (c .before .before .before .before .before .before .before .before .before .before .before .before .before .before .before .before .before .args .to .0) (c .before .before .before .before .before .before .before .before .before .before .before .before .before .before .before .before .before .args .block) (c .before .before .before .before .before .before .before .before .before .before .before .before .before .before .before .before .before .args .has) (c .before .before .before .before .before .before .before .before .before .before .before .before .trim .result) (c .before .before .before .before .before .before .before .before .before .before .before .before .trim .ensures .0) (c .before .before .before .before .before .before .before .before .before .before .before .before .trim .ensures .1) (c .before .before .before .before .before .before .before .before .before .before .before .if1 .left) (c .before .before .before .before .before .before .before .before .attr-ir .result) (c .before .before .before .before .before .before .before .before .attr-ir .ensures .1 .0) (c .before .before .before .before .before .before .ir .given .0 .0) (c .before .before .before .before .before .before .ir .given .0 .1 .0) (c .before .before .before .before .before .before .ir .given .1) (c .before .before .before .before .if2 .taken)), (c .before .before .cut-positional .ensures .1 .0 ∙ ap (λ (x : Read). withRows (c .before .before .before .before .before .before .before .before .before .before .before .before .before .before .before .before .before .args .rows .now) (c .before .before .before .before .before .before .before .before .before .before .before .before .before .before .before .before .before .args .at) (x .rows)) (whole-cut (c .before .before .before .before .before .before .before .before .before .before .before .before .before .before .before .before .before .args .kinds .now) (c .before .before .before .before .before .before .before .before .before .before .before .before .before .before .before .before .before .args .text .now) (c .before .before .before .before .before .before .before .before .before .before .before .before .before .before .before .before .before .args .pairs .now) (c .before .before .before .before .before .before .before .before .before .before .before .before .before .before .before .before .before .args .from .0) (c .before .before .before .before .before .before .before .before .before .before .before .before .before .before .before .before .before .args .to .0) (c .before .before .before .before .before .before .before .before .before .before .before .before .before .before .before .before .before .args .block) (c .before .before .before .before .before .before .before .before .before .before .before .before .before .before .before .before .before .args .has) (c .before .before .before .before .before .before .before .before .before .before .before .before .trim .result) (c .before .before .before .before .before .before .before .before .before .before .before .before .trim .ensures .0) (c .before .before .before .before .before .before .before .before .before .before .before .before .trim .ensures .1) (c .before .before .before .before .before .before .before .before .before .before .before .if1 .left) (c .before .before .before .before .before .before .before .before .attr-ir .result) (c .before .before .before .before .before .before .before .before .attr-ir .ensures .1 .0) (c .before .before .before .before .before .before .ir .given .0 .0) (c .before .before .before .before .before .before .ir .given .0 .1 .0) (c .before .before .before .before .before .before .ir .given .1) (c .before .before .before .before .if2 .taken)), omega (arith, c .before .before .cut-positional .ensures .1 .1, c .before .before .before .before .before .before .before .before .before .before .before .before .before .before .before .before .before .pre .1 .1 .0, c .before .before .before .before .before .before .before .before .before .before .before .before .before .before .before .before .before .pre .1 .1 .1, c .before .before .before .before .before .before .before .before .before .before .before .before .before .before .before .before .before .pre .1 .1 .2, c .before .before .before .before .before .before .before .before .before .before .before .before .before .before .before .before .before .pre .1 .0 .few, c .before .before .before .before .before .before .before .before .before .before .before .before .trim .ensures .1 .within, c .before .before .before .before .before .before .before .before .before .before .before .before .trim .ensures .1 .few, (subst (λ (x : AttrIr). Bounded (c .before .before .before .before .before .before .before .before .before .before .before .before .before .before .before .before .before .args .kinds .now) (c .before .before .before .before .before .before .before .before .before .before .before .before .trim .result .place .0) (c .before .before .before .before .before .before .before .before .before .before .before .before .trim .result .place .0 + c .before .before .before .before .before .before .before .before .before .before .before .before .trim .result .count) x) (c .before .before .before .before .before .before .ir .given .1) (c .before .before .before .before .before .before .before .before .attr-ir .ensures .1 .1)) .few)))
 
 -- src/lib.rt:73:31
 parse-attr-one-run-requires-2 : (t : ℕ) → parse-attr-lts.Need-one-run-requires-2 (
@@ -516,7 +523,7 @@ parse-attr-one-run-requires-2 : (t : ℕ) → parse-attr-lts.Need-one-run-requir
   push-shorthand-reads.Asked,
   push-shorthand-reads.Learnt,
 ) (parse-attr-at t) parse-attr.Post
-parse-attr-one-run-requires-2 t c κs = ?
+parse-attr-one-run-requires-2 t c κs = tt
 
 -- src/lib.rt:73:13
 parse-attr-put-one-requires-2 : (t : ℕ) → parse-attr-lts.Need-put-one-requires-2 (
@@ -537,7 +544,7 @@ parse-attr-put-one-requires-2 : (t : ℕ) → parse-attr-lts.Need-put-one-requir
   push-shorthand-reads.Asked,
   push-shorthand-reads.Learnt,
 ) (parse-attr-at t) parse-attr.Post
-parse-attr-put-one-requires-2 t c κs = ?
+parse-attr-put-one-requires-2 t c κs = (omega (arith, c .before .before .before .before .before .before .before .before .before .before .before .before .before .before .before .pre .1 .1 .0, c .before .before .before .before .before .before .before .before .before .before .before .before .before .before .before .pre .1 .1 .1, c .before .before .before .before .before .before .before .before .before .before .before .before .before .before .before .pre .1 .1 .2, c .before .before .before .before .before .before .before .before .before .before .before .before .before .before .before .pre .1 .0 .few, c .before .before .before .before .before .before .before .before .before .before .trim .ensures .1 .within, c .before .before .before .before .before .before .before .before .before .before .trim .ensures .1 .few), subst (λ (r : Row). Fits r) (sym (c .one-run2 .ensures)) (record { first-place = omega (arith, c .before .before .before .before .before .before .before .before .before .before .before .before .before .before .before .pre .1 .1 .0, c .before .before .before .before .before .before .before .before .before .before .before .before .before .before .before .pre .1 .1 .1, c .before .before .before .before .before .before .before .before .before .before .before .before .before .before .before .pre .1 .1 .2, c .before .before .before .before .before .before .before .before .before .before .before .before .before .before .before .pre .1 .0 .few, c .before .before .before .before .before .before .before .before .before .before .trim .ensures .1 .within, c .before .before .before .before .before .before .before .before .before .before .trim .ensures .1 .few, (subst (λ (x : AttrIr). Bounded (c .before .before .before .before .before .before .before .before .before .before .before .before .before .before .before .args .kinds .now) (c .before .before .before .before .before .before .before .before .before .before .trim .result .place .0) (c .before .before .before .before .before .before .before .before .before .before .trim .result .place .0 + c .before .before .before .before .before .before .before .before .before .before .trim .result .count) x) (c .before .before .before .before .ir .given .1) (c .before .before .before .before .before .before .attr-ir .ensures .1 .1)) .within); first-count = omega (arith, c .before .before .before .before .before .before .before .before .before .before .before .before .before .before .before .pre .1 .1 .0, c .before .before .before .before .before .before .before .before .before .before .before .before .before .before .before .pre .1 .1 .1, c .before .before .before .before .before .before .before .before .before .before .before .before .before .before .before .pre .1 .1 .2, c .before .before .before .before .before .before .before .before .before .before .before .before .before .before .before .pre .1 .0 .few, c .before .before .before .before .before .before .before .before .before .before .trim .ensures .1 .within, c .before .before .before .before .before .before .before .before .before .before .trim .ensures .1 .few, (subst (λ (x : AttrIr). Bounded (c .before .before .before .before .before .before .before .before .before .before .before .before .before .before .before .args .kinds .now) (c .before .before .before .before .before .before .before .before .before .before .trim .result .place .0) (c .before .before .before .before .before .before .before .before .before .before .trim .result .place .0 + c .before .before .before .before .before .before .before .before .before .before .trim .result .count) x) (c .before .before .before .before .ir .given .1) (c .before .before .before .before .before .before .attr-ir .ensures .1 .1)) .within); second-place = omega arith; second-count = omega arith }))
 
 -- src/lib.rt:75:25
 parse-attr-enum-known-ir-2 : (t : ℕ) → parse-attr-lts.Need-enum-known-ir-2 (
@@ -558,7 +565,7 @@ parse-attr-enum-known-ir-2 : (t : ℕ) → parse-attr-lts.Need-enum-known-ir-2 (
   push-shorthand-reads.Asked,
   push-shorthand-reads.Learnt,
 ) (parse-attr-at t) parse-attr.Post
-parse-attr-enum-known-ir-2 t c = ?
+parse-attr-enum-known-ir-2 t c = c .match .keys2
 
 -- src/lib.rt:81:13
 parse-attr-put-one-requires-3 : (t : ℕ) → parse-attr-lts.Need-put-one-requires-3 (
@@ -579,7 +586,7 @@ parse-attr-put-one-requires-3 : (t : ℕ) → parse-attr-lts.Need-put-one-requir
   push-shorthand-reads.Asked,
   push-shorthand-reads.Learnt,
 ) (parse-attr-at t) parse-attr.Post
-parse-attr-put-one-requires-3 t c κs = ?
+parse-attr-put-one-requires-3 t c κs = (omega (arith, c .before .before .before .before .before .before .before .before .before .before .before .before .before .pre .1 .1 .0, c .before .before .before .before .before .before .before .before .before .before .before .before .before .pre .1 .1 .1, c .before .before .before .before .before .before .before .before .before .before .before .before .before .pre .1 .1 .2, c .before .before .before .before .before .before .before .before .before .before .before .before .before .pre .1 .0 .few, c .before .before .before .before .before .before .before .before .trim .ensures .1 .within, c .before .before .before .before .before .before .before .before .trim .ensures .1 .few), record { first-place = omega (arith, c .before .before .before .before .before .before .before .before .before .before .before .before .before .pre .1 .1 .0, c .before .before .before .before .before .before .before .before .before .before .before .before .before .pre .1 .1 .1, c .before .before .before .before .before .before .before .before .before .before .before .before .before .pre .1 .1 .2, c .before .before .before .before .before .before .before .before .before .before .before .before .before .pre .1 .0 .few, c .before .before .before .before .before .before .before .before .trim .ensures .1 .within, c .before .before .before .before .before .before .before .before .trim .ensures .1 .few, (subst (λ (x : AttrIr). Bounded (c .before .before .before .before .before .before .before .before .before .before .before .before .before .args .kinds .now) (c .before .before .before .before .before .before .before .before .trim .result .place .0) (c .before .before .before .before .before .before .before .before .trim .result .place .0 + c .before .before .before .before .before .before .before .before .trim .result .count) x) (c .before .before .ir2 .given .1) (c .before .before .before .before .attr-ir .ensures .1 .1)) .0 .within); first-count = omega (arith, c .before .before .before .before .before .before .before .before .before .before .before .before .before .pre .1 .1 .0, c .before .before .before .before .before .before .before .before .before .before .before .before .before .pre .1 .1 .1, c .before .before .before .before .before .before .before .before .before .before .before .before .before .pre .1 .1 .2, c .before .before .before .before .before .before .before .before .before .before .before .before .before .pre .1 .0 .few, c .before .before .before .before .before .before .before .before .trim .ensures .1 .within, c .before .before .before .before .before .before .before .before .trim .ensures .1 .few, (subst (λ (x : AttrIr). Bounded (c .before .before .before .before .before .before .before .before .before .before .before .before .before .args .kinds .now) (c .before .before .before .before .before .before .before .before .trim .result .place .0) (c .before .before .before .before .before .before .before .before .trim .result .place .0 + c .before .before .before .before .before .before .before .before .trim .result .count) x) (c .before .before .ir2 .given .1) (c .before .before .before .before .attr-ir .ensures .1 .1)) .0 .within); second-place = omega (arith, c .before .before .before .before .before .before .before .before .before .before .before .before .before .pre .1 .1 .0, c .before .before .before .before .before .before .before .before .before .before .before .before .before .pre .1 .1 .1, c .before .before .before .before .before .before .before .before .before .before .before .before .before .pre .1 .1 .2, c .before .before .before .before .before .before .before .before .before .before .before .before .before .pre .1 .0 .few, c .before .before .before .before .before .before .before .before .trim .ensures .1 .within, c .before .before .before .before .before .before .before .before .trim .ensures .1 .few, (subst (λ (x : AttrIr). Bounded (c .before .before .before .before .before .before .before .before .before .before .before .before .before .args .kinds .now) (c .before .before .before .before .before .before .before .before .trim .result .place .0) (c .before .before .before .before .before .before .before .before .trim .result .place .0 + c .before .before .before .before .before .before .before .before .trim .result .count) x) (c .before .before .ir2 .given .1) (c .before .before .before .before .attr-ir .ensures .1 .1)) .1 .within); second-count = omega (arith, c .before .before .before .before .before .before .before .before .before .before .before .before .before .pre .1 .1 .0, c .before .before .before .before .before .before .before .before .before .before .before .before .before .pre .1 .1 .1, c .before .before .before .before .before .before .before .before .before .before .before .before .before .pre .1 .1 .2, c .before .before .before .before .before .before .before .before .before .before .before .before .before .pre .1 .0 .few, c .before .before .before .before .before .before .before .before .trim .ensures .1 .within, c .before .before .before .before .before .before .before .before .trim .ensures .1 .few, (subst (λ (x : AttrIr). Bounded (c .before .before .before .before .before .before .before .before .before .before .before .before .before .args .kinds .now) (c .before .before .before .before .before .before .before .before .trim .result .place .0) (c .before .before .before .before .before .before .before .before .trim .result .place .0 + c .before .before .before .before .before .before .before .before .trim .result .count) x) (c .before .before .ir2 .given .1) (c .before .before .before .before .attr-ir .ensures .1 .1)) .1 .within) })
 
 -- src/lib.rt:83:25
 parse-attr-enum-known-ir-3 : (t : ℕ) → parse-attr-lts.Need-enum-known-ir-3 (
@@ -600,7 +607,7 @@ parse-attr-enum-known-ir-3 : (t : ℕ) → parse-attr-lts.Need-enum-known-ir-3 (
   push-shorthand-reads.Asked,
   push-shorthand-reads.Learnt,
 ) (parse-attr-at t) parse-attr.Post
-parse-attr-enum-known-ir-3 t c = ?
+parse-attr-enum-known-ir-3 t c = c .match .keys3
 
 -- src/lib.rt:89:13
 parse-attr-put-one-requires-4 : (t : ℕ) → parse-attr-lts.Need-put-one-requires-4 (
@@ -621,7 +628,7 @@ parse-attr-put-one-requires-4 : (t : ℕ) → parse-attr-lts.Need-put-one-requir
   push-shorthand-reads.Asked,
   push-shorthand-reads.Learnt,
 ) (parse-attr-at t) parse-attr.Post
-parse-attr-put-one-requires-4 t c κs = ?
+parse-attr-put-one-requires-4 t c κs = (omega (arith, c .before .before .before .before .before .before .before .before .before .before .before .before .before .pre .1 .1 .0, c .before .before .before .before .before .before .before .before .before .before .before .before .before .pre .1 .1 .1, c .before .before .before .before .before .before .before .before .before .before .before .before .before .pre .1 .1 .2, c .before .before .before .before .before .before .before .before .before .before .before .before .before .pre .1 .0 .few, c .before .before .before .before .before .before .before .before .trim .ensures .1 .within, c .before .before .before .before .before .before .before .before .trim .ensures .1 .few), record { first-place = omega (arith, c .before .before .before .before .before .before .before .before .before .before .before .before .before .pre .1 .1 .0, c .before .before .before .before .before .before .before .before .before .before .before .before .before .pre .1 .1 .1, c .before .before .before .before .before .before .before .before .before .before .before .before .before .pre .1 .1 .2, c .before .before .before .before .before .before .before .before .before .before .before .before .before .pre .1 .0 .few, c .before .before .before .before .before .before .before .before .trim .ensures .1 .within, c .before .before .before .before .before .before .before .before .trim .ensures .1 .few, (subst (λ (x : AttrIr). Bounded (c .before .before .before .before .before .before .before .before .before .before .before .before .before .args .kinds .now) (c .before .before .before .before .before .before .before .before .trim .result .place .0) (c .before .before .before .before .before .before .before .before .trim .result .place .0 + c .before .before .before .before .before .before .before .before .trim .result .count) x) (c .before .before .ir3 .given .1) (c .before .before .before .before .attr-ir .ensures .1 .1)) .0 .within); first-count = omega (arith, c .before .before .before .before .before .before .before .before .before .before .before .before .before .pre .1 .1 .0, c .before .before .before .before .before .before .before .before .before .before .before .before .before .pre .1 .1 .1, c .before .before .before .before .before .before .before .before .before .before .before .before .before .pre .1 .1 .2, c .before .before .before .before .before .before .before .before .before .before .before .before .before .pre .1 .0 .few, c .before .before .before .before .before .before .before .before .trim .ensures .1 .within, c .before .before .before .before .before .before .before .before .trim .ensures .1 .few, (subst (λ (x : AttrIr). Bounded (c .before .before .before .before .before .before .before .before .before .before .before .before .before .args .kinds .now) (c .before .before .before .before .before .before .before .before .trim .result .place .0) (c .before .before .before .before .before .before .before .before .trim .result .place .0 + c .before .before .before .before .before .before .before .before .trim .result .count) x) (c .before .before .ir3 .given .1) (c .before .before .before .before .attr-ir .ensures .1 .1)) .0 .within); second-place = omega (arith, c .before .before .before .before .before .before .before .before .before .before .before .before .before .pre .1 .1 .0, c .before .before .before .before .before .before .before .before .before .before .before .before .before .pre .1 .1 .1, c .before .before .before .before .before .before .before .before .before .before .before .before .before .pre .1 .1 .2, c .before .before .before .before .before .before .before .before .before .before .before .before .before .pre .1 .0 .few, c .before .before .before .before .before .before .before .before .trim .ensures .1 .within, c .before .before .before .before .before .before .before .before .trim .ensures .1 .few, (subst (λ (x : AttrIr). Bounded (c .before .before .before .before .before .before .before .before .before .before .before .before .before .args .kinds .now) (c .before .before .before .before .before .before .before .before .trim .result .place .0) (c .before .before .before .before .before .before .before .before .trim .result .place .0 + c .before .before .before .before .before .before .before .before .trim .result .count) x) (c .before .before .ir3 .given .1) (c .before .before .before .before .attr-ir .ensures .1 .1)) .1 .within); second-count = omega (arith, c .before .before .before .before .before .before .before .before .before .before .before .before .before .pre .1 .1 .0, c .before .before .before .before .before .before .before .before .before .before .before .before .before .pre .1 .1 .1, c .before .before .before .before .before .before .before .before .before .before .before .before .before .pre .1 .1 .2, c .before .before .before .before .before .before .before .before .before .before .before .before .before .pre .1 .0 .few, c .before .before .before .before .before .before .before .before .trim .ensures .1 .within, c .before .before .before .before .before .before .before .before .trim .ensures .1 .few, (subst (λ (x : AttrIr). Bounded (c .before .before .before .before .before .before .before .before .before .before .before .before .before .args .kinds .now) (c .before .before .before .before .before .before .before .before .trim .result .place .0) (c .before .before .before .before .before .before .before .before .trim .result .place .0 + c .before .before .before .before .before .before .before .before .trim .result .count) x) (c .before .before .ir3 .given .1) (c .before .before .before .before .attr-ir .ensures .1 .1)) .1 .within) })
 
 -- src/lib.rt:91:25
 parse-attr-enum-known-ir-4 : (t : ℕ) → parse-attr-lts.Need-enum-known-ir-4 (
@@ -642,7 +649,7 @@ parse-attr-enum-known-ir-4 : (t : ℕ) → parse-attr-lts.Need-enum-known-ir-4 (
   push-shorthand-reads.Asked,
   push-shorthand-reads.Learnt,
 ) (parse-attr-at t) parse-attr.Post
-parse-attr-enum-known-ir-4 t c = ?
+parse-attr-enum-known-ir-4 t c = c .match .keys4
 
 -- src/lib.rt:93:34
 parse-attr-add-t49 : (t : ℕ) → parse-attr-lts.Need-add-t49 (
@@ -663,7 +670,7 @@ parse-attr-add-t49 : (t : ℕ) → parse-attr-lts.Need-add-t49 (
   push-shorthand-reads.Asked,
   push-shorthand-reads.Learnt,
 ) (parse-attr-at t) parse-attr.Post
-parse-attr-add-t49 t c = omega arith
+parse-attr-add-t49 t c = omega (arith, c .before .before .before .before .before .before .before .before .before .before .before .before .before .before .before .pre .1 .1 .0, c .before .before .before .before .before .before .before .before .before .before .before .before .before .before .before .pre .1 .1 .1, c .before .before .before .before .before .before .before .before .before .before .before .before .before .before .before .pre .1 .1 .2, c .before .before .before .before .before .before .before .before .before .before .before .before .before .before .before .pre .1 .0 .few, c .before .before .before .before .before .before .before .before .before .before .trim .ensures .1 .within, c .before .before .before .before .before .before .before .before .before .before .trim .ensures .1 .few, (subst (λ (x : AttrIr). Bounded (c .before .before .before .before .before .before .before .before .before .before .before .before .before .before .before .args .kinds .now) (c .before .before .before .before .before .before .before .before .before .before .trim .result .place .0) (c .before .before .before .before .before .before .before .before .before .before .trim .result .place .0 + c .before .before .before .before .before .before .before .before .before .before .trim .result .count) x) (c .before .before .before .before .ir4 .given .1) (c .before .before .before .before .before .before .attr-ir .ensures .1 .1)) .within)
 
 -- src/lib.rt:95:23
 parse-attr-push-attr-groups-requires : (t : ℕ) → parse-attr-lts.Need-push-attr-groups-requires (
@@ -684,7 +691,7 @@ parse-attr-push-attr-groups-requires : (t : ℕ) → parse-attr-lts.Need-push-at
   push-shorthand-reads.Asked,
   push-shorthand-reads.Learnt,
 ) (parse-attr-at t) parse-attr.Post
-parse-attr-push-attr-groups-requires t c κs = ?
+parse-attr-push-attr-groups-requires t c κs = ((omega arith, omega (arith, c .before .before .before .before .before .before .before .before .before .before .before .before .before .before .before .before .pre .1 .1 .0, c .before .before .before .before .before .before .before .before .before .before .before .before .before .before .before .before .pre .1 .1 .1, c .before .before .before .before .before .before .before .before .before .before .before .before .before .before .before .before .pre .1 .1 .2, c .before .before .before .before .before .before .before .before .before .before .before .before .before .before .before .before .pre .1 .0 .few, c .before .before .before .before .before .before .before .before .before .before .before .trim .ensures .1 .within, c .before .before .before .before .before .before .before .before .before .before .before .trim .ensures .1 .few, (subst (λ (x : AttrIr). Bounded (c .before .before .before .before .before .before .before .before .before .before .before .before .before .before .before .before .args .kinds .now) (c .before .before .before .before .before .before .before .before .before .before .before .trim .result .place .0) (c .before .before .before .before .before .before .before .before .before .before .before .trim .result .place .0 + c .before .before .before .before .before .before .before .before .before .before .before .trim .result .count) x) (c .before .before .before .before .before .ir4 .given .1) (c .before .before .before .before .before .before .before .attr-ir .ensures .1 .1)) .within), c .before .before .before .before .before .before .before .before .before .before .before .before .before .before .before .before .pre .1 .0 .few, λ e. omega (arith, e)), omega (arith, c .before .before .before .before .before .before .before .before .before .before .before .before .before .before .before .before .pre .1 .1 .0, c .before .before .before .before .before .before .before .before .before .before .before .before .before .before .before .before .pre .1 .1 .1, c .before .before .before .before .before .before .before .before .before .before .before .before .before .before .before .before .pre .1 .1 .2, c .before .before .before .before .before .before .before .before .before .before .before .before .before .before .before .before .pre .1 .0 .few, c .before .before .before .before .before .before .before .before .before .before .before .trim .ensures .1 .within, c .before .before .before .before .before .before .before .before .before .before .before .trim .ensures .1 .few, (subst (λ (x : AttrIr). Bounded (c .before .before .before .before .before .before .before .before .before .before .before .before .before .before .before .before .args .kinds .now) (c .before .before .before .before .before .before .before .before .before .before .before .trim .result .place .0) (c .before .before .before .before .before .before .before .before .before .before .before .trim .result .place .0 + c .before .before .before .before .before .before .before .before .before .before .before .trim .result .count) x) (c .before .before .before .before .before .ir4 .given .1) (c .before .before .before .before .before .before .before .attr-ir .ensures .1 .1)) .few))
 
 -- src/lib.rt:99:23
 parse-attr-enum-known-ir-5 : (t : ℕ) → parse-attr-lts.Need-enum-known-ir-5 (
@@ -705,7 +712,7 @@ parse-attr-enum-known-ir-5 : (t : ℕ) → parse-attr-lts.Need-enum-known-ir-5 (
   push-shorthand-reads.Asked,
   push-shorthand-reads.Learnt,
 ) (parse-attr-at t) parse-attr.Post
-parse-attr-enum-known-ir-5 t c = ?
+parse-attr-enum-known-ir-5 t c = c .match .keys5
 
 -- src/lib.rt:101:34
 parse-attr-add-t52 : (t : ℕ) → parse-attr-lts.Need-add-t52 (
@@ -726,7 +733,7 @@ parse-attr-add-t52 : (t : ℕ) → parse-attr-lts.Need-add-t52 (
   push-shorthand-reads.Asked,
   push-shorthand-reads.Learnt,
 ) (parse-attr-at t) parse-attr.Post
-parse-attr-add-t52 t c = omega arith
+parse-attr-add-t52 t c = omega (arith, c .before .before .before .before .before .before .before .before .before .before .before .before .before .before .before .pre .1 .1 .0, c .before .before .before .before .before .before .before .before .before .before .before .before .before .before .before .pre .1 .1 .1, c .before .before .before .before .before .before .before .before .before .before .before .before .before .before .before .pre .1 .1 .2, c .before .before .before .before .before .before .before .before .before .before .before .before .before .before .before .pre .1 .0 .few, c .before .before .before .before .before .before .before .before .before .before .trim .ensures .1 .within, c .before .before .before .before .before .before .before .before .before .before .trim .ensures .1 .few, (subst (λ (x : AttrIr). Bounded (c .before .before .before .before .before .before .before .before .before .before .before .before .before .before .before .args .kinds .now) (c .before .before .before .before .before .before .before .before .before .before .trim .result .place .0) (c .before .before .before .before .before .before .before .before .before .before .trim .result .place .0 + c .before .before .before .before .before .before .before .before .before .before .trim .result .count) x) (c .before .before .before .before .ir5 .given .1) (c .before .before .before .before .before .before .attr-ir .ensures .1 .1)) .within)
 
 -- src/lib.rt:103:23
 parse-attr-push-attr-groups-requires-2 : (t : ℕ) → parse-attr-lts.Need-push-attr-groups-requires-2 (
@@ -747,7 +754,7 @@ parse-attr-push-attr-groups-requires-2 : (t : ℕ) → parse-attr-lts.Need-push-
   push-shorthand-reads.Asked,
   push-shorthand-reads.Learnt,
 ) (parse-attr-at t) parse-attr.Post
-parse-attr-push-attr-groups-requires-2 t c κs = ?
+parse-attr-push-attr-groups-requires-2 t c κs = ((omega arith, omega (arith, c .before .before .before .before .before .before .before .before .before .before .before .before .before .before .before .before .pre .1 .1 .0, c .before .before .before .before .before .before .before .before .before .before .before .before .before .before .before .before .pre .1 .1 .1, c .before .before .before .before .before .before .before .before .before .before .before .before .before .before .before .before .pre .1 .1 .2, c .before .before .before .before .before .before .before .before .before .before .before .before .before .before .before .before .pre .1 .0 .few, c .before .before .before .before .before .before .before .before .before .before .before .trim .ensures .1 .within, c .before .before .before .before .before .before .before .before .before .before .before .trim .ensures .1 .few, (subst (λ (x : AttrIr). Bounded (c .before .before .before .before .before .before .before .before .before .before .before .before .before .before .before .before .args .kinds .now) (c .before .before .before .before .before .before .before .before .before .before .before .trim .result .place .0) (c .before .before .before .before .before .before .before .before .before .before .before .trim .result .place .0 + c .before .before .before .before .before .before .before .before .before .before .before .trim .result .count) x) (c .before .before .before .before .before .ir5 .given .1) (c .before .before .before .before .before .before .before .attr-ir .ensures .1 .1)) .within), c .before .before .before .before .before .before .before .before .before .before .before .before .before .before .before .before .pre .1 .0 .few, λ e. omega (arith, e)), omega (arith, c .before .before .before .before .before .before .before .before .before .before .before .before .before .before .before .before .pre .1 .1 .0, c .before .before .before .before .before .before .before .before .before .before .before .before .before .before .before .before .pre .1 .1 .1, c .before .before .before .before .before .before .before .before .before .before .before .before .before .before .before .before .pre .1 .1 .2, c .before .before .before .before .before .before .before .before .before .before .before .before .before .before .before .before .pre .1 .0 .few, c .before .before .before .before .before .before .before .before .before .before .before .trim .ensures .1 .within, c .before .before .before .before .before .before .before .before .before .before .before .trim .ensures .1 .few, (subst (λ (x : AttrIr). Bounded (c .before .before .before .before .before .before .before .before .before .before .before .before .before .before .before .before .args .kinds .now) (c .before .before .before .before .before .before .before .before .before .before .before .trim .result .place .0) (c .before .before .before .before .before .before .before .before .before .before .before .trim .result .place .0 + c .before .before .before .before .before .before .before .before .before .before .before .trim .result .count) x) (c .before .before .before .before .before .ir5 .given .1) (c .before .before .before .before .before .before .before .attr-ir .ensures .1 .1)) .few))
 
 -- src/lib.rt:107:20
 parse-attr-enum-known-ir-6 : (t : ℕ) → parse-attr-lts.Need-enum-known-ir-6 (
@@ -768,7 +775,7 @@ parse-attr-enum-known-ir-6 : (t : ℕ) → parse-attr-lts.Need-enum-known-ir-6 (
   push-shorthand-reads.Asked,
   push-shorthand-reads.Learnt,
 ) (parse-attr-at t) parse-attr.Post
-parse-attr-enum-known-ir-6 t c = ?
+parse-attr-enum-known-ir-6 t c = c .match .keys6
 
 -- src/lib.rt:107:28
 parse-attr-put-id-requires : (t : ℕ) → parse-attr-lts.Need-put-id-requires (
@@ -789,7 +796,7 @@ parse-attr-put-id-requires : (t : ℕ) → parse-attr-lts.Need-put-id-requires (
   push-shorthand-reads.Asked,
   push-shorthand-reads.Learnt,
 ) (parse-attr-at t) parse-attr.Post
-parse-attr-put-id-requires t c κs = ?
+parse-attr-put-id-requires t c κs = (omega (arith, c .before .before .before .before .before .before .before .before .before .before .before .before .before .pre .1 .1 .0, c .before .before .before .before .before .before .before .before .before .before .before .before .before .pre .1 .1 .1, c .before .before .before .before .before .before .before .before .before .before .before .before .before .pre .1 .1 .2, c .before .before .before .before .before .before .before .before .before .before .before .before .before .pre .1 .0 .few, c .before .before .before .before .before .before .before .before .trim .ensures .1 .within, c .before .before .before .before .before .before .before .before .trim .ensures .1 .few), omega (arith, c .before .before .before .before .before .before .before .before .before .before .before .before .before .pre .1 .1 .0, c .before .before .before .before .before .before .before .before .before .before .before .before .before .pre .1 .1 .1, c .before .before .before .before .before .before .before .before .before .before .before .before .before .pre .1 .1 .2, c .before .before .before .before .before .before .before .before .before .before .before .before .before .pre .1 .0 .few, c .before .before .before .before .before .before .before .before .trim .ensures .1 .within, c .before .before .before .before .before .before .before .before .trim .ensures .1 .few, (subst (λ (x : AttrIr). Bounded (c .before .before .before .before .before .before .before .before .before .before .before .before .before .args .kinds .now) (c .before .before .before .before .before .before .before .before .trim .result .place .0) (c .before .before .before .before .before .before .before .before .trim .result .place .0 + c .before .before .before .before .before .before .before .before .trim .result .count) x) (c .before .before .ir6 .given .1) (c .before .before .before .before .attr-ir .ensures .1 .1)) .within), omega (arith, c .before .before .before .before .before .before .before .before .before .before .before .before .before .pre .1 .1 .0, c .before .before .before .before .before .before .before .before .before .before .before .before .before .pre .1 .1 .1, c .before .before .before .before .before .before .before .before .before .before .before .before .before .pre .1 .1 .2, c .before .before .before .before .before .before .before .before .before .before .before .before .before .pre .1 .0 .few, c .before .before .before .before .before .before .before .before .trim .ensures .1 .within, c .before .before .before .before .before .before .before .before .trim .ensures .1 .few, (subst (λ (x : AttrIr). Bounded (c .before .before .before .before .before .before .before .before .before .before .before .before .before .args .kinds .now) (c .before .before .before .before .before .before .before .before .trim .result .place .0) (c .before .before .before .before .before .before .before .before .trim .result .place .0 + c .before .before .before .before .before .before .before .before .trim .result .count) x) (c .before .before .ir6 .given .1) (c .before .before .before .before .attr-ir .ensures .1 .1)) .within))
 
 -- src/lib.rt:108:27
 parse-attr-enum-known-ir-7 : (t : ℕ) → parse-attr-lts.Need-enum-known-ir-7 (
@@ -810,7 +817,7 @@ parse-attr-enum-known-ir-7 : (t : ℕ) → parse-attr-lts.Need-enum-known-ir-7 (
   push-shorthand-reads.Asked,
   push-shorthand-reads.Learnt,
 ) (parse-attr-at t) parse-attr.Post
-parse-attr-enum-known-ir-7 t c = ?
+parse-attr-enum-known-ir-7 t c = c .match .keys7
 
 -- src/lib.rt:110:34
 parse-attr-add-t57 : (t : ℕ) → parse-attr-lts.Need-add-t57 (
@@ -831,7 +838,7 @@ parse-attr-add-t57 : (t : ℕ) → parse-attr-lts.Need-add-t57 (
   push-shorthand-reads.Asked,
   push-shorthand-reads.Learnt,
 ) (parse-attr-at t) parse-attr.Post
-parse-attr-add-t57 t c = omega arith
+parse-attr-add-t57 t c = omega (arith, c .before .before .before .before .before .before .before .before .before .before .before .before .before .before .before .pre .1 .1 .0, c .before .before .before .before .before .before .before .before .before .before .before .before .before .before .before .pre .1 .1 .1, c .before .before .before .before .before .before .before .before .before .before .before .before .before .before .before .pre .1 .1 .2, c .before .before .before .before .before .before .before .before .before .before .before .before .before .before .before .pre .1 .0 .few, c .before .before .before .before .before .before .before .before .before .before .trim .ensures .1 .within, c .before .before .before .before .before .before .before .before .before .before .trim .ensures .1 .few, (subst (λ (x : AttrIr). Bounded (c .before .before .before .before .before .before .before .before .before .before .before .before .before .before .before .args .kinds .now) (c .before .before .before .before .before .before .before .before .before .before .trim .result .place .0) (c .before .before .before .before .before .before .before .before .before .before .trim .result .place .0 + c .before .before .before .before .before .before .before .before .before .before .trim .result .count) x) (c .before .before .before .before .ir7 .given .1) (c .before .before .before .before .before .before .attr-ir .ensures .1 .1)) .within)
 
 -- src/lib.rt:111:13
 parse-attr-push-shorthand-requires : (t : ℕ) → parse-attr-lts.Need-push-shorthand-requires (
@@ -852,7 +859,7 @@ parse-attr-push-shorthand-requires : (t : ℕ) → parse-attr-lts.Need-push-shor
   push-shorthand-reads.Asked,
   push-shorthand-reads.Learnt,
 ) (parse-attr-at t) parse-attr.Post
-parse-attr-push-shorthand-requires t c κs = ?
+parse-attr-push-shorthand-requires t c κs = (c .before .before .before .before .before .before .before .before .before .before .before .before .before .before .before .before .pre .1 .0, ((omega arith, omega (arith, c .before .before .before .before .before .before .before .before .before .before .before .before .before .before .before .before .pre .1 .1 .0, c .before .before .before .before .before .before .before .before .before .before .before .before .before .before .before .before .pre .1 .1 .1, c .before .before .before .before .before .before .before .before .before .before .before .before .before .before .before .before .pre .1 .1 .2, c .before .before .before .before .before .before .before .before .before .before .before .before .before .before .before .before .pre .1 .0 .few, c .before .before .before .before .before .before .before .before .before .before .before .trim .ensures .1 .within, c .before .before .before .before .before .before .before .before .before .before .before .trim .ensures .1 .few, (subst (λ (x : AttrIr). Bounded (c .before .before .before .before .before .before .before .before .before .before .before .before .before .before .before .before .args .kinds .now) (c .before .before .before .before .before .before .before .before .before .before .before .trim .result .place .0) (c .before .before .before .before .before .before .before .before .before .before .before .trim .result .place .0 + c .before .before .before .before .before .before .before .before .before .before .before .trim .result .count) x) (c .before .before .before .before .before .ir7 .given .1) (c .before .before .before .before .before .before .before .attr-ir .ensures .1 .1)) .within), omega (arith, c .before .before .before .before .before .before .before .before .before .before .before .before .before .before .before .before .pre .1 .1 .0, c .before .before .before .before .before .before .before .before .before .before .before .before .before .before .before .before .pre .1 .1 .1, c .before .before .before .before .before .before .before .before .before .before .before .before .before .before .before .before .pre .1 .1 .2, c .before .before .before .before .before .before .before .before .before .before .before .before .before .before .before .before .pre .1 .0 .few, c .before .before .before .before .before .before .before .before .before .before .before .trim .ensures .1 .within, c .before .before .before .before .before .before .before .before .before .before .before .trim .ensures .1 .few, (subst (λ (x : AttrIr). Bounded (c .before .before .before .before .before .before .before .before .before .before .before .before .before .before .before .before .args .kinds .now) (c .before .before .before .before .before .before .before .before .before .before .before .trim .result .place .0) (c .before .before .before .before .before .before .before .before .before .before .before .trim .result .place .0 + c .before .before .before .before .before .before .before .before .before .before .before .trim .result .count) x) (c .before .before .before .before .before .ir7 .given .1) (c .before .before .before .before .before .before .before .attr-ir .ensures .1 .1)) .few)), whole-stops (c .before .before .before .before .before .before .before .before .before .before .before .before .before .before .before .before .args .kinds .now) (c .before .before .before .before .before .before .before .before .before .before .before .before .before .before .before .before .args .text .now) (c .before .before .before .before .before .before .before .before .before .before .before .before .before .before .before .before .args .pairs .now) (c .before .before .before .before .before .before .before .before .before .before .before .before .before .before .before .before .args .from .0) (c .before .before .before .before .before .before .before .before .before .before .before .before .before .before .before .before .args .to .0) (c .before .before .before .before .before .before .before .before .before .before .before .before .before .before .before .before .args .block) (c .before .before .before .before .before .before .before .before .before .before .before .before .before .before .before .before .args .has) (c .before .before .before .before .before .before .before .before .before .before .before .trim .result) (c .before .before .before .before .before .before .before .before .before .before .before .trim .ensures .0) (c .before .before .before .before .before .before .before .before .before .before .before .trim .ensures .1) (c .before .before .before .before .before .before .before .before .before .before .if1 .left) (c .before .before .before .before .before .before .before .attr-ir .result) (c .before .before .before .before .before .before .before .attr-ir .ensures .1 .0) (c .before .before .before .before .before .ir7 .given .0 .0) (c .before .before .before .before .before .ir7 .given .1) ((subst (λ (x : AttrIr). Bounded (c .before .before .before .before .before .before .before .before .before .before .before .before .before .before .before .before .args .kinds .now) (c .before .before .before .before .before .before .before .before .before .before .before .trim .result .place .0) (c .before .before .before .before .before .before .before .before .before .before .before .trim .result .place .0 + c .before .before .before .before .before .before .before .before .before .before .before .trim .result .count) x) (c .before .before .before .before .before .ir7 .given .1) (c .before .before .before .before .before .before .before .attr-ir .ensures .1 .1)) .ends)))
 
 -- src/lib.rt:37:1
 parse-attr-same-length-3 : (t : ℕ) → parse-attr-lts.Need-same-length-3 (
@@ -873,7 +880,7 @@ parse-attr-same-length-3 : (t : ℕ) → parse-attr-lts.Need-same-length-3 (
   push-shorthand-reads.Asked,
   push-shorthand-reads.Learnt,
 ) (parse-attr-at t) parse-attr.Post
-parse-attr-same-length-3 t c = ?
+parse-attr-same-length-3 t c = c .before .before .put-one2 .kept .0
 
 -- src/lib.rt:37:1
 parse-attr-returns-3 : (t : ℕ) → parse-attr-lts.Need-returns-3 (
@@ -894,7 +901,7 @@ parse-attr-returns-3 : (t : ℕ) → parse-attr-lts.Need-returns-3 (
   push-shorthand-reads.Asked,
   push-shorthand-reads.Learnt,
 ) (parse-attr-at t) parse-attr.Post
-parse-attr-returns-3 t c = ?
+parse-attr-returns-3 t c = all-told _ _ _ _ _ _ _ (c .before .before .put-one2 .ensures) (whole-positional (c .before .before .before .before .before .before .before .before .before .before .before .before .before .before .before .before .before .before .args .kinds .now) (c .before .before .before .before .before .before .before .before .before .before .before .before .before .before .before .before .before .before .args .text .now) (c .before .before .before .before .before .before .before .before .before .before .before .before .before .before .before .before .before .before .args .pairs .now) (c .before .before .before .before .before .before .before .before .before .before .before .before .before .before .before .before .before .before .args .from .0) (c .before .before .before .before .before .before .before .before .before .before .before .before .before .before .before .before .before .before .args .to .0) (c .before .before .before .before .before .before .before .before .before .before .before .before .before .before .before .before .before .before .args .block) (c .before .before .before .before .before .before .before .before .before .before .before .before .before .before .before .before .before .before .args .has) (c .before .before .before .before .before .before .before .before .before .before .before .before .before .trim .result) (c .before .before .before .before .before .before .before .before .before .before .before .before .before .trim .ensures .0) (c .before .before .before .before .before .before .before .before .before .before .before .before .before .trim .ensures .1) (c .before .before .before .before .before .before .before .before .before .before .before .before .if1 .left) (c .before .before .before .before .before .before .before .before .before .attr-ir .result) (c .before .before .before .before .before .before .before .before .before .attr-ir .ensures .1 .0) (c .before .before .before .before .before .before .before .before .before .attr-ir .ensures .0) (c .before .before .before .before .before .before .before .ir .given .0 .0) (c .before .before .before .before .before .before .before .ir .given .0 .1 .0) (c .before .before .before .before .before .before .before .ir .given .1) (c .before .before .before .before .before .if2 .left) _ (c .before .before .before .one-run2 .ensures)) (omega (arith, c .before .before .put-one2 .ensures .wrote .count))
 
 -- src/lib.rt:37:1
 parse-attr-same-length-4 : (t : ℕ) → parse-attr-lts.Need-same-length-4 (
@@ -915,7 +922,7 @@ parse-attr-same-length-4 : (t : ℕ) → parse-attr-lts.Need-same-length-4 (
   push-shorthand-reads.Asked,
   push-shorthand-reads.Learnt,
 ) (parse-attr-at t) parse-attr.Post
-parse-attr-same-length-4 t c = ?
+parse-attr-same-length-4 t c = c .before .before .put-one3 .kept .0
 
 -- src/lib.rt:37:1
 parse-attr-returns-4 : (t : ℕ) → parse-attr-lts.Need-returns-4 (
@@ -936,7 +943,7 @@ parse-attr-returns-4 : (t : ℕ) → parse-attr-lts.Need-returns-4 (
   push-shorthand-reads.Asked,
   push-shorthand-reads.Learnt,
 ) (parse-attr-at t) parse-attr.Post
-parse-attr-returns-4 t c = ?
+parse-attr-returns-4 t c = all-told _ _ _ _ _ _ _ (c .before .before .put-one3 .ensures) (whole-named (c .before .before .before .before .before .before .before .before .before .before .before .before .before .before .before .before .args .kinds .now) (c .before .before .before .before .before .before .before .before .before .before .before .before .before .before .before .before .args .text .now) (c .before .before .before .before .before .before .before .before .before .before .before .before .before .before .before .before .args .pairs .now) (c .before .before .before .before .before .before .before .before .before .before .before .before .before .before .before .before .args .from .0) (c .before .before .before .before .before .before .before .before .before .before .before .before .before .before .before .before .args .to .0) (c .before .before .before .before .before .before .before .before .before .before .before .before .before .before .before .before .args .block) (c .before .before .before .before .before .before .before .before .before .before .before .before .before .before .before .before .args .has) (c .before .before .before .before .before .before .before .before .before .before .before .trim .result) (c .before .before .before .before .before .before .before .before .before .before .before .trim .ensures .0) (c .before .before .before .before .before .before .before .before .before .before .before .trim .ensures .1) (c .before .before .before .before .before .before .before .before .before .before .if1 .left) (c .before .before .before .before .before .before .before .attr-ir .result) (c .before .before .before .before .before .before .before .attr-ir .ensures .1 .0) (c .before .before .before .before .before .ir2 .given .0 .0) (c .before .before .before .before .before .ir2 .given .0 .1 .0) (c .before .before .before .before .before .ir2 .given .1)) (omega (arith, c .before .before .put-one3 .ensures .wrote .count))
 
 -- src/lib.rt:37:1
 parse-attr-same-length-5 : (t : ℕ) → parse-attr-lts.Need-same-length-5 (
@@ -957,7 +964,7 @@ parse-attr-same-length-5 : (t : ℕ) → parse-attr-lts.Need-same-length-5 (
   push-shorthand-reads.Asked,
   push-shorthand-reads.Learnt,
 ) (parse-attr-at t) parse-attr.Post
-parse-attr-same-length-5 t c = ?
+parse-attr-same-length-5 t c = c .before .before .put-one4 .kept .0
 
 -- src/lib.rt:37:1
 parse-attr-returns-5 : (t : ℕ) → parse-attr-lts.Need-returns-5 (
@@ -978,7 +985,7 @@ parse-attr-returns-5 : (t : ℕ) → parse-attr-lts.Need-returns-5 (
   push-shorthand-reads.Asked,
   push-shorthand-reads.Learnt,
 ) (parse-attr-at t) parse-attr.Post
-parse-attr-returns-5 t c = ?
+parse-attr-returns-5 t c = all-told _ _ _ _ _ _ _ (c .before .before .put-one4 .ensures) (whole-plain (c .before .before .before .before .before .before .before .before .before .before .before .before .before .before .before .before .args .kinds .now) (c .before .before .before .before .before .before .before .before .before .before .before .before .before .before .before .before .args .text .now) (c .before .before .before .before .before .before .before .before .before .before .before .before .before .before .before .before .args .pairs .now) (c .before .before .before .before .before .before .before .before .before .before .before .before .before .before .before .before .args .from .0) (c .before .before .before .before .before .before .before .before .before .before .before .before .before .before .before .before .args .to .0) (c .before .before .before .before .before .before .before .before .before .before .before .before .before .before .before .before .args .block) (c .before .before .before .before .before .before .before .before .before .before .before .before .before .before .before .before .args .has) (c .before .before .before .before .before .before .before .before .before .before .before .trim .result) (c .before .before .before .before .before .before .before .before .before .before .before .trim .ensures .0) (c .before .before .before .before .before .before .before .before .before .before .before .trim .ensures .1) (c .before .before .before .before .before .before .before .before .before .before .if1 .left) (c .before .before .before .before .before .before .before .attr-ir .result) (c .before .before .before .before .before .before .before .attr-ir .ensures .1 .0) (c .before .before .before .before .before .ir3 .given .0 .0) (c .before .before .before .before .before .ir3 .given .0 .1 .0) (c .before .before .before .before .before .ir3 .given .1)) (omega (arith, c .before .before .put-one4 .ensures .wrote .count))
 
 -- src/lib.rt:37:1
 parse-attr-same-length-6 : (t : ℕ) → parse-attr-lts.Need-same-length-6 (
@@ -999,7 +1006,7 @@ parse-attr-same-length-6 : (t : ℕ) → parse-attr-lts.Need-same-length-6 (
   push-shorthand-reads.Asked,
   push-shorthand-reads.Learnt,
 ) (parse-attr-at t) parse-attr.Post
-parse-attr-same-length-6 t c = ?
+parse-attr-same-length-6 t c = c .before .before .push-attr-groups .kept .1 .1 .1 .1 .1 .0
 
 -- src/lib.rt:37:1
 parse-attr-returns-6 : (t : ℕ) → parse-attr-lts.Need-returns-6 (
@@ -1020,7 +1027,7 @@ parse-attr-returns-6 : (t : ℕ) → parse-attr-lts.Need-returns-6 (
   push-shorthand-reads.Asked,
   push-shorthand-reads.Learnt,
 ) (parse-attr-at t) parse-attr.Post
-parse-attr-returns-6 t c = ?
+parse-attr-returns-6 t c = all-told _ _ _ _ _ _ _ (record { wrote = c .before .before .push-attr-groups .ensures .0 _ _; id = refl }) (whole-options (c .before .before .before .before .before .before .before .before .before .before .before .before .before .before .before .before .before .before .before .args .kinds .now) (c .before .before .before .before .before .before .before .before .before .before .before .before .before .before .before .before .before .before .before .args .text .now) (c .before .before .before .before .before .before .before .before .before .before .before .before .before .before .before .before .before .before .before .args .pairs .now) (c .before .before .before .before .before .before .before .before .before .before .before .before .before .before .before .before .before .before .before .args .from .0) (c .before .before .before .before .before .before .before .before .before .before .before .before .before .before .before .before .before .before .before .args .to .0) (c .before .before .before .before .before .before .before .before .before .before .before .before .before .before .before .before .before .before .before .args .block) (c .before .before .before .before .before .before .before .before .before .before .before .before .before .before .before .before .before .before .before .args .has) (c .before .before .before .before .before .before .before .before .before .before .before .before .before .before .trim .result) (c .before .before .before .before .before .before .before .before .before .before .before .before .before .before .trim .ensures .0) (c .before .before .before .before .before .before .before .before .before .before .before .before .before .before .trim .ensures .1) (c .before .before .before .before .before .before .before .before .before .before .before .before .before .if1 .left) (c .before .before .before .before .before .before .before .before .before .before .attr-ir .result) (c .before .before .before .before .before .before .before .before .before .before .attr-ir .ensures .1 .0) (c .before .before .before .before .before .before .before .before .ir4 .given .0 .0) (c .before .before .before .before .before .before .before .before .ir4 .given .1)) (omega (arith, c .before .before .push-attr-groups .ensures .1, c .before .before .before .before .before .before .before .before .before .before .before .before .before .before .before .before .before .before .before .pre .1 .1 .0, c .before .before .before .before .before .before .before .before .before .before .before .before .before .before .before .before .before .before .before .pre .1 .1 .1, c .before .before .before .before .before .before .before .before .before .before .before .before .before .before .before .before .before .before .before .pre .1 .1 .2, c .before .before .before .before .before .before .before .before .before .before .before .before .before .before .before .before .before .before .before .pre .1 .0 .few, c .before .before .before .before .before .before .before .before .before .before .before .before .before .before .trim .ensures .1 .within, c .before .before .before .before .before .before .before .before .before .before .before .before .before .before .trim .ensures .1 .few, (subst (λ (x : AttrIr). Bounded (c .before .before .before .before .before .before .before .before .before .before .before .before .before .before .before .before .before .before .before .args .kinds .now) (c .before .before .before .before .before .before .before .before .before .before .before .before .before .before .trim .result .place .0) (c .before .before .before .before .before .before .before .before .before .before .before .before .before .before .trim .result .place .0 + c .before .before .before .before .before .before .before .before .before .before .before .before .before .before .trim .result .count) x) (c .before .before .before .before .before .before .before .before .ir4 .given .1) (c .before .before .before .before .before .before .before .before .before .before .attr-ir .ensures .1 .1)) .few))
 
 -- src/lib.rt:37:1
 parse-attr-same-length-7 : (t : ℕ) → parse-attr-lts.Need-same-length-7 (
@@ -1041,7 +1048,7 @@ parse-attr-same-length-7 : (t : ℕ) → parse-attr-lts.Need-same-length-7 (
   push-shorthand-reads.Asked,
   push-shorthand-reads.Learnt,
 ) (parse-attr-at t) parse-attr.Post
-parse-attr-same-length-7 t c = ?
+parse-attr-same-length-7 t c = c .before .before .push-attr-groups2 .kept .1 .1 .1 .1 .1 .0
 
 -- src/lib.rt:37:1
 parse-attr-returns-7 : (t : ℕ) → parse-attr-lts.Need-returns-7 (
@@ -1062,7 +1069,7 @@ parse-attr-returns-7 : (t : ℕ) → parse-attr-lts.Need-returns-7 (
   push-shorthand-reads.Asked,
   push-shorthand-reads.Learnt,
 ) (parse-attr-at t) parse-attr.Post
-parse-attr-returns-7 t c = ?
+parse-attr-returns-7 t c = all-told _ _ _ _ _ _ _ (record { wrote = c .before .before .push-attr-groups2 .ensures .0 _ _; id = refl }) (whole-roles (c .before .before .before .before .before .before .before .before .before .before .before .before .before .before .before .before .before .before .before .args .kinds .now) (c .before .before .before .before .before .before .before .before .before .before .before .before .before .before .before .before .before .before .before .args .text .now) (c .before .before .before .before .before .before .before .before .before .before .before .before .before .before .before .before .before .before .before .args .pairs .now) (c .before .before .before .before .before .before .before .before .before .before .before .before .before .before .before .before .before .before .before .args .from .0) (c .before .before .before .before .before .before .before .before .before .before .before .before .before .before .before .before .before .before .before .args .to .0) (c .before .before .before .before .before .before .before .before .before .before .before .before .before .before .before .before .before .before .before .args .block) (c .before .before .before .before .before .before .before .before .before .before .before .before .before .before .before .before .before .before .before .args .has) (c .before .before .before .before .before .before .before .before .before .before .before .before .before .before .trim .result) (c .before .before .before .before .before .before .before .before .before .before .before .before .before .before .trim .ensures .0) (c .before .before .before .before .before .before .before .before .before .before .before .before .before .before .trim .ensures .1) (c .before .before .before .before .before .before .before .before .before .before .before .before .before .if1 .left) (c .before .before .before .before .before .before .before .before .before .before .attr-ir .result) (c .before .before .before .before .before .before .before .before .before .before .attr-ir .ensures .1 .0) (c .before .before .before .before .before .before .before .before .ir5 .given .0 .0) (c .before .before .before .before .before .before .before .before .ir5 .given .1)) (omega (arith, c .before .before .push-attr-groups2 .ensures .1, c .before .before .before .before .before .before .before .before .before .before .before .before .before .before .before .before .before .before .before .pre .1 .1 .0, c .before .before .before .before .before .before .before .before .before .before .before .before .before .before .before .before .before .before .before .pre .1 .1 .1, c .before .before .before .before .before .before .before .before .before .before .before .before .before .before .before .before .before .before .before .pre .1 .1 .2, c .before .before .before .before .before .before .before .before .before .before .before .before .before .before .before .before .before .before .before .pre .1 .0 .few, c .before .before .before .before .before .before .before .before .before .before .before .before .before .before .trim .ensures .1 .within, c .before .before .before .before .before .before .before .before .before .before .before .before .before .before .trim .ensures .1 .few, (subst (λ (x : AttrIr). Bounded (c .before .before .before .before .before .before .before .before .before .before .before .before .before .before .before .before .before .before .before .args .kinds .now) (c .before .before .before .before .before .before .before .before .before .before .before .before .before .before .trim .result .place .0) (c .before .before .before .before .before .before .before .before .before .before .before .before .before .before .trim .result .place .0 + c .before .before .before .before .before .before .before .before .before .before .before .before .before .before .trim .result .count) x) (c .before .before .before .before .before .before .before .before .ir5 .given .1) (c .before .before .before .before .before .before .before .before .before .before .attr-ir .ensures .1 .1)) .few))
 
 -- src/lib.rt:37:1
 parse-attr-same-length-8 : (t : ℕ) → parse-attr-lts.Need-same-length-8 (
@@ -1083,7 +1090,7 @@ parse-attr-same-length-8 : (t : ℕ) → parse-attr-lts.Need-same-length-8 (
   push-shorthand-reads.Asked,
   push-shorthand-reads.Learnt,
 ) (parse-attr-at t) parse-attr.Post
-parse-attr-same-length-8 t c = ?
+parse-attr-same-length-8 t c = c .before .before .put-id .kept .0
 
 -- src/lib.rt:37:1
 parse-attr-returns-8 : (t : ℕ) → parse-attr-lts.Need-returns-8 (
@@ -1104,7 +1111,7 @@ parse-attr-returns-8 : (t : ℕ) → parse-attr-lts.Need-returns-8 (
   push-shorthand-reads.Asked,
   push-shorthand-reads.Learnt,
 ) (parse-attr-at t) parse-attr.Post
-parse-attr-returns-8 t c = ?
+parse-attr-returns-8 t c = let w = c .before .before .put-id .ensures _ (id-run (c .before .before .before .before .before .before .before .before .before .before .before .before .before .before .before .before .args .kinds .now) (c .before .before .before .before .before .before .before .before .before .before .before .before .before .before .before .before .args .text .now) (c .before .before .before .before .before .before .before .before .before .before .before .before .before .before .before .before .args .pairs .now) (c .before .before .before .before .before .before .before .before .before .before .before .before .before .before .before .before .args .from .0) (c .before .before .before .before .before .before .before .before .before .before .before .before .before .before .before .before .args .to .0) (c .before .before .before .before .before .before .before .before .before .before .before .before .before .before .before .before .args .block) (c .before .before .before .before .before .before .before .before .before .before .before .before .before .before .before .before .args .has) (c .before .before .before .before .before .before .before .before .before .before .before .trim .result) (c .before .before .before .before .before .before .before .before .before .before .before .trim .ensures .0) (c .before .before .before .before .before .before .before .before .before .before .before .trim .ensures .1) (c .before .before .before .before .before .before .before .before .before .before .if1 .left) (c .before .before .before .before .before .before .before .attr-ir .result) (c .before .before .before .before .before .before .before .attr-ir .ensures .1 .0) (c .before .before .before .before .before .before .before .attr-ir .ensures .0) (c .before .before .before .before .before .ir6 .given .0 .0) (c .before .before .before .before .before .ir6 .given .1)) in all-told _ _ _ _ _ _ _ w (whole-id (c .before .before .before .before .before .before .before .before .before .before .before .before .before .before .before .before .args .kinds .now) (c .before .before .before .before .before .before .before .before .before .before .before .before .before .before .before .before .args .text .now) (c .before .before .before .before .before .before .before .before .before .before .before .before .before .before .before .before .args .pairs .now) (c .before .before .before .before .before .before .before .before .before .before .before .before .before .before .before .before .args .from .0) (c .before .before .before .before .before .before .before .before .before .before .before .before .before .before .before .before .args .to .0) (c .before .before .before .before .before .before .before .before .before .before .before .before .before .before .before .before .args .block) (c .before .before .before .before .before .before .before .before .before .before .before .before .before .before .before .before .args .has) (c .before .before .before .before .before .before .before .before .before .before .before .trim .result) (c .before .before .before .before .before .before .before .before .before .before .before .trim .ensures .0) (c .before .before .before .before .before .before .before .before .before .before .before .trim .ensures .1) (c .before .before .before .before .before .before .before .before .before .before .if1 .left) (c .before .before .before .before .before .before .before .attr-ir .result) (c .before .before .before .before .before .before .before .attr-ir .ensures .1 .0) (c .before .before .before .before .before .ir6 .given .0 .0) (c .before .before .before .before .before .ir6 .given .1)) (id-few _ _ _ _ _ _ _ w (omega arith))
 
 -- src/lib.rt:37:1
 parse-attr-same-length-9 : (t : ℕ) → parse-attr-lts.Need-same-length-9 (
@@ -1125,7 +1132,7 @@ parse-attr-same-length-9 : (t : ℕ) → parse-attr-lts.Need-same-length-9 (
   push-shorthand-reads.Asked,
   push-shorthand-reads.Learnt,
 ) (parse-attr-at t) parse-attr.Post
-parse-attr-same-length-9 t c = ?
+parse-attr-same-length-9 t c = c .before .before .push-shorthand .kept .1 .1 .1 .1 .1 .1 .0
 
 -- src/lib.rt:37:1
 parse-attr-returns-9 : (t : ℕ) → parse-attr-lts.Need-returns-9 (
@@ -1146,7 +1153,7 @@ parse-attr-returns-9 : (t : ℕ) → parse-attr-lts.Need-returns-9 (
   push-shorthand-reads.Asked,
   push-shorthand-reads.Learnt,
 ) (parse-attr-at t) parse-attr.Post
-parse-attr-returns-9 t c = ?
+parse-attr-returns-9 t c = all-told _ _ _ _ _ _ _ (c .before .before .push-shorthand .ensures .0) (whole-shorthand (c .before .before .before .before .before .before .before .before .before .before .before .before .before .before .before .before .before .before .before .args .kinds .now) (c .before .before .before .before .before .before .before .before .before .before .before .before .before .before .before .before .before .before .before .args .text .now) (c .before .before .before .before .before .before .before .before .before .before .before .before .before .before .before .before .before .before .before .args .pairs .now) (c .before .before .before .before .before .before .before .before .before .before .before .before .before .before .before .before .before .before .before .args .from .0) (c .before .before .before .before .before .before .before .before .before .before .before .before .before .before .before .before .before .before .before .args .to .0) (c .before .before .before .before .before .before .before .before .before .before .before .before .before .before .before .before .before .before .before .args .block) (c .before .before .before .before .before .before .before .before .before .before .before .before .before .before .before .before .before .before .before .args .has) (c .before .before .before .before .before .before .before .before .before .before .before .before .before .before .trim .result) (c .before .before .before .before .before .before .before .before .before .before .before .before .before .before .trim .ensures .0) (c .before .before .before .before .before .before .before .before .before .before .before .before .before .before .trim .ensures .1) (c .before .before .before .before .before .before .before .before .before .before .before .before .before .if1 .left) (c .before .before .before .before .before .before .before .before .before .before .attr-ir .result) (c .before .before .before .before .before .before .before .before .before .before .attr-ir .ensures .1 .0) (c .before .before .before .before .before .before .before .before .ir7 .given .0 .0) (c .before .before .before .before .before .before .before .before .ir7 .given .1)) (omega (arith, c .before .before .push-shorthand .ensures .1, c .before .before .before .before .before .before .before .before .before .before .before .before .before .before .before .before .before .before .before .pre .1 .1 .0, c .before .before .before .before .before .before .before .before .before .before .before .before .before .before .before .before .before .before .before .pre .1 .1 .1, c .before .before .before .before .before .before .before .before .before .before .before .before .before .before .before .before .before .before .before .pre .1 .1 .2, c .before .before .before .before .before .before .before .before .before .before .before .before .before .before .before .before .before .before .before .pre .1 .0 .few, c .before .before .before .before .before .before .before .before .before .before .before .before .before .before .trim .ensures .1 .within, c .before .before .before .before .before .before .before .before .before .before .before .before .before .before .trim .ensures .1 .few, (subst (λ (x : AttrIr). Bounded (c .before .before .before .before .before .before .before .before .before .before .before .before .before .before .before .before .before .before .before .args .kinds .now) (c .before .before .before .before .before .before .before .before .before .before .before .before .before .before .trim .result .place .0) (c .before .before .before .before .before .before .before .before .before .before .before .before .before .before .trim .result .place .0 + c .before .before .before .before .before .before .before .before .before .before .before .before .before .before .trim .result .count) x) (c .before .before .before .before .before .before .before .before .ir7 .given .1) (c .before .before .before .before .before .before .before .before .before .before .attr-ir .ensures .1 .1)) .few))
 
 pub +cut-positional+parse-attr-spec : {M : Type 1} → statement M
 +cut-positional+parse-attr-spec =

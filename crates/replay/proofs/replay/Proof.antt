@@ -20,8 +20,8 @@ loop-holds c = search needs
 number-requires : tie.Need-number-requires Inv-loop μ-loop
 number-requires c κs = search needs
 
-replay-line-requires : tie.Need-replay-line-requires Inv-loop μ-loop
-replay-line-requires c κs = search needs
+replay-call-requires : tie.Need-replay-call-requires Inv-loop μ-loop
+replay-call-requires c κs = search needs
 
 returns : tie.Need-returns Inv-loop μ-loop
 returns c = search needs
@@ -43,7 +43,7 @@ replay-spec =
     μ-loop
     loop-holds
     number-requires
-    replay-line-requires
+    replay-call-requires
     returns
     loop-less
     loop-again

@@ -1,0 +1,40 @@
+//! A proved reader of AsciiDoc attribute lines, for Rust.
+//!
+//! The reading is done by `libtelfjost.a`, which is proved; this crate lends it slices, sizes
+//! its buffers and gives its numbers types. It holds no reading of its own, and its user writes
+//! no `unsafe`.
+//!
+//! A [`Line`] is built token by token, or a [`Lent`] made of three slices that are there
+//! already; a [`Set`] of substitutions is a value. Every call that the reader turns away is a [`Refusal`], with document 01's number.
+//!
+//! ```
+//! use telfjost::{Kind, Line};
+//!
+//! // [edition=3]
+//! let line: Line = [
+//!     (Kind::OpenBracket, "["),
+//!     (Kind::Word, "edition"),
+//!     (Kind::EqualSigns, "="),
+//!     (Kind::Digits, "3"),
+//!     (Kind::CloseBracket, "]"),
+//! ]
+//! .into_iter()
+//! .collect();
+//! assert_eq!(line.lent().is_block_attr_list(), Ok(true));
+//! ```
+//!
+//! Linking: `build.rs` looks for the library in the folder that `TELFJOST_LIB_DIR` names, else
+//! in `../target/staticlib`, where `rt staticlib telfjost` puts it.
+#![deny(unsafe_code, missing_docs)]
+
+mod kind;
+mod line;
+mod refusal;
+mod subs;
+#[allow(missing_docs)]
+mod sys;
+
+pub use kind::Kind;
+pub use line::{Lent, Line, Run, Text};
+pub use refusal::Refusal;
+pub use subs::{Set, Sub};

@@ -1,0 +1,144 @@
+// The parts of the text between commas, by their places.
+use crate::Strategy;
+use substitutions::Mode;
+ghost use mathlib.Core.Path.{_≡_};
+ghost use Prim.Native.Nat.{_≤_, _<_, _+_};
+ghost use lib.ListN.{length, drop};
+ghost use Rattle.customize_subs.specs.Text.{front, back, modified};
+ghost use Rattle.customize_subs.specs.Customizing.{partOf, strategyOf, nameOf};
+ghost use Rattle.customize_subs.specs.Walks.{toComma, between};
+
+// A part of the text: the bytes from `start` up to `end`.
+pub struct Span {
+    pub start: usize,
+    pub end: usize,
+}
+
+// The move that a part asks for, and where its name stands.
+pub struct Named {
+    pub strategy: Strategy,
+    pub start: usize,
+    pub end: usize,
+}
+
+// The place of the first comma from `from` on, or the end of the text.
+pub fn next_comma(text: &[u8], from: usize) -> usize
+    requires { ⌜ from ≤ length (now text) ⌝ }
+    ensures { λ r. ⌜ r ≡ from + toComma (drop from (now (text .entry))) ⌝ }
+    ensures within { λ r. ⌜ (from ≤ r) × (r ≤ length (now (text .entry))) ⌝ }
+{
+    let mut i = from;
+    while i < text.len() {
+        if text[i] == 44 {
+            return i;
+        }
+        i = i + 1;
+    }
+    i
+}
+
+// Whether the text holds any + or -.
+pub fn has_modifier(text: &[u8]) -> bool
+    ensures { λ r. ⌜ r ≡ modified (now (text .entry)) ⌝ }
+{
+    let mut i: usize = 0;
+    while i < text.len() {
+        let b = text[i];
+        if b == 43 {
+            return true;
+        }
+        if b == 45 {
+            return true;
+        }
+        i = i + 1;
+    }
+    false
+}
+
+// The first place from `start` on that holds no space, or `end`.
+pub fn skip_spaces(text: &[u8], start: usize, end: usize) -> usize
+    requires { ⌜ (start ≤ end) × (end ≤ length (now text)) ⌝ }
+    ensures { λ r. ⌜ between r end (now (text .entry)) ≡ front (between start end (now (text .entry))) ⌝ }
+    ensures within { λ r. ⌜ (start ≤ r) × (r ≤ end) ⌝ }
+{
+    let mut i = start;
+    while i < end {
+        if text[i] != 32 {
+            return i;
+        }
+        i = i + 1;
+    }
+    i
+}
+
+// The place after the last byte before `end` that is no space, or `start`.
+pub fn drop_spaces(text: &[u8], start: usize, end: usize) -> usize
+    requires { ⌜ (start ≤ end) × (end ≤ length (now text)) ⌝ }
+    ensures { λ r. ⌜ between start r (now (text .entry)) ≡ back (between start end (now (text .entry))) ⌝ }
+    ensures within { λ r. ⌜ (start ≤ r) × (r ≤ end) ⌝ }
+{
+    let mut i = end;
+    while start < i {
+        if text[i - 1] != 32 {
+            return i;
+        }
+        i = i - 1;
+    }
+    i
+}
+
+// The part as the mode reads it: in sheet mode without the spaces at its ends.
+pub fn part_at(mode: Mode, text: &[u8], start: usize, end: usize) -> Span
+    requires { ⌜ (start ≤ end) × (end ≤ length (now text)) ⌝ }
+    ensures { λ r. ⌜ between (r .start) (r .end) (now (text .entry)) ≡ partOf mode (between start end (now (text .entry))) ⌝ }
+    ensures within { λ r. ⌜ (r .start ≤ r .end) × (r .end ≤ end) ⌝ }
+{
+    match mode {
+        Mode::Port => Span { start, end },
+        Mode::Sheet => {
+            let from = skip_spaces(text, start, end);
+            let to = drop_spaces(text, from, end);
+            Span {
+                start: from,
+                end: to,
+            }
+        }
+    }
+}
+
+// Leading + inserts, else trailing + prepends, else leading - removes, else insert.
+pub fn name_at(text: &[u8], start: usize, end: usize) -> Named
+    requires { ⌜ (start < end) × (end ≤ length (now text)) ⌝ }
+    ensures { λ r. ⌜ r .strategy ≡ strategyOf (between start end (now (text .entry))) ⌝ }
+    ensures name { λ r. ⌜ between (r .start) (r .end) (now (text .entry)) ≡ nameOf (between start end (now (text .entry))) ⌝ }
+    ensures within { λ r. ⌜ (r .start ≤ r .end) × (r .end ≤ end) ⌝ }
+{
+    let first = text[start];
+    let last = text[end - 1];
+    if first == 43 {
+        return Named {
+            strategy: Strategy::Insert,
+            start: start + 1,
+            end,
+        };
+    }
+    if last == 43 {
+        return Named {
+            strategy: Strategy::Prepend,
+            start,
+            end: end - 1,
+        };
+    }
+    if first == 45 {
+        return Named {
+            strategy: Strategy::Remove,
+            start: start + 1,
+            end,
+        };
+    }
+    Named {
+        strategy: Strategy::Insert,
+        start,
+        end,
+    }
+}

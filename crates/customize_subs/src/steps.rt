@@ -1,0 +1,80 @@
+// A name entered into a set by a part's move.
+use crate::Strategy;
+use subs_names::StepOrGroup;
+use substitutions::Mode;
+use substitutions::Subs;
+use substitutions::Substitutions;
+use substitutions::insert_held;
+use substitutions::prepend_held;
+use substitutions::remove_held;
+ghost use mathlib.Core.Path.{_≡_};
+ghost use mathlib.Core.Bool.{true};
+ghost use mathlib.Core.List.{[], _∷_};
+ghost use Rattle.substitutions.specs.Kinds.{numberOf};
+ghost use Rattle.substitutions.specs.Held.{held};
+ghost use Rattle.customize_subs.specs.Customizing.{moveOf, verbatimOf, kindsOf, entered};
+
+// One kind.
+pub fn enter_kind(mode: Mode, strategy: Strategy, set: Substitutions, sub: Subs) -> Substitutions
+    requires { ⌜ held set ≡ true ⌝ }
+    ensures { λ r. ⌜ r ≡ moveOf mode strategy (numberOf sub) set ⌝ }
+    ensures held { λ r. ⌜ held r ≡ true ⌝ }
+{
+    match strategy {
+        Strategy::Insert => insert_held(mode, set, sub),
+        Strategy::Prepend => prepend_held(set, sub),
+        Strategy::Remove => remove_held(set, sub),
+    }
+}
+
+// Kinds 1 to 6.
+pub fn enter_normal(mode: Mode, strategy: Strategy, set: Substitutions) -> Substitutions
+    requires { ⌜ held set ≡ true ⌝ }
+    ensures { λ r. ⌜ r ≡ entered mode strategy (1 ∷ 2 ∷ 3 ∷ 4 ∷ 5 ∷ 6 ∷ []) set ⌝ }
+    ensures held { λ r. ⌜ held r ≡ true ⌝ }
+{
+    let a = enter_kind(mode, strategy, set, Subs::SpecialChars);
+    let b = enter_kind(mode, strategy, a, Subs::InlineFormatting);
+    let c = enter_kind(mode, strategy, b, Subs::AttrRefs);
+    let d = enter_kind(mode, strategy, c, Subs::CharReplacement);
+    let e = enter_kind(mode, strategy, d, Subs::Macros);
+    enter_kind(mode, strategy, e, Subs::PostReplacement)
+}
+
+// The second kind of verbatim, after specialchars.
+pub fn verbatim_second(mode: Mode) -> Subs
+    ensures { λ r. ⌜ 1 ∷ numberOf r ∷ [] ≡ verbatimOf mode ⌝ }
+{
+    match mode {
+        Mode::Port => Subs::CharReplacement,
+        Mode::Sheet => Subs::Callouts,
+    }
+}
+
+pub fn enter_verbatim(mode: Mode, strategy: Strategy, set: Substitutions) -> Substitutions
+    requires { ⌜ held set ≡ true ⌝ }
+    ensures { λ r. ⌜ r ≡ entered mode strategy (verbatimOf mode) set ⌝ }
+    ensures held { λ r. ⌜ held r ≡ true ⌝ }
+{
+    let a = enter_kind(mode, strategy, set, Subs::SpecialChars);
+    enter_kind(mode, strategy, a, verbatim_second(mode))
+}
+
+pub fn enter(mode: Mode, strategy: Strategy, step: StepOrGroup, set: Substitutions) -> Substitutions
+    requires { ⌜ held set ≡ true ⌝ }
+    ensures { λ r. ⌜ r ≡ entered mode strategy (kindsOf mode step) set ⌝ }
+    ensures held { λ r. ⌜ held r ≡ true ⌝ }
+{
+    match step {
+        StepOrGroup::None => set,
+        StepOrGroup::Normal => enter_normal(mode, strategy, set),
+        StepOrGroup::Verbatim => enter_verbatim(mode, strategy, set),
+        StepOrGroup::SpecialChars => enter_kind(mode, strategy, set, Subs::SpecialChars),
+        StepOrGroup::Quotes => enter_kind(mode, strategy, set, Subs::InlineFormatting),
+        StepOrGroup::Attributes => enter_kind(mode, strategy, set, Subs::AttrRefs),
+        StepOrGroup::Replacements => enter_kind(mode, strategy, set, Subs::CharReplacement),
+        StepOrGroup::Macros => enter_kind(mode, strategy, set, Subs::Macros),
+        StepOrGroup::PostReplacements => enter_kind(mode, strategy, set, Subs::PostReplacement),
+        StepOrGroup::Callouts => enter_kind(mode, strategy, set, Subs::Callouts),
+    }
+}

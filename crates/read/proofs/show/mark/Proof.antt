@@ -1,0 +1,51 @@
+-- `show::mark` is safe and ends.
+-- The measure is the bytes left.
+-- Assumes nothing.
+use borrow.Author.Needs.{needs}
+use Prim.Native.Nat.{_-_}
+use native.Mathlib.Omega.{arith}
+use mathlib.Core.Path.{_≡_}
+use lib.ListN.{length}
+use Rattle.read.proofs.show.mark.Statement.{statement}
+use Rattle.read.proofs.show.mark.Tie as tie
+
+abbrev Inv-loop : tie.InvT-loop
+Inv-loop marks₀ from to m i₀ marks i = length marks ≡ length marks₀
+
+abbrev μ-loop : tie.MeasureT-loop
+μ-loop marks₀ from to m i₀ marks i = to - i
+
+loop-holds : tie.Need-loop-holds Inv-loop μ-loop
+loop-holds c = search needs
+
+put-requires : tie.Need-put-requires Inv-loop μ-loop
+put-requires c κs = search needs
+
+add-i : tie.Need-add-i Inv-loop μ-loop
+add-i c = omega arith
+
+loop-less : tie.Need-loop-less Inv-loop μ-loop
+loop-less c = omega arith
+
+loop-again : tie.Need-loop-again Inv-loop μ-loop
+loop-again c = search needs
+
+same-length : tie.Need-same-length Inv-loop μ-loop
+same-length c = search needs
+
+returns : tie.Need-returns Inv-loop μ-loop
+returns c = search needs
+
+pub mark-spec : {M : Type 1} → statement M
+mark-spec =
+    tie.close
+    (tie.spec
+    Inv-loop
+    μ-loop
+    loop-holds
+    put-requires
+    add-i
+    loop-less
+    loop-again
+    same-length
+    returns)

@@ -1,0 +1,18 @@
+-- `is_sound` decides `sound`, since a set is sound where no flag is left over. Assumes nothing.
+use borrow.Author.Needs.{needs}
+use Prim.Native.Nat.{ℕ, _-_}
+use mathlib.Core.Path.{sym, ap, _∙_}
+use lib.Dec.{eqb}
+use lib.ListN.{set}
+use Rattle.substitutions.specs.HeldLaws.{sound-is}
+use Rattle.substitutions.proofs.is_sound.Statement.{statement}
+use Rattle.substitutions.proofs.is_sound.Tie as tie
+
+left-over-requires : tie.Need-left-over-requires
+left-over-requires c κs = search needs
+
+returns : tie.Need-returns
+returns c = ap (λ (n : ℕ). eqb n 0) (c .left-over .ensures) ∙ sym (sound-is (c .before .args .set) (search needs))
+
+pub is-sound-spec : {M : Type 1} → statement M
+is-sound-spec = tie.close (tie.spec left-over-requires returns)

@@ -1,0 +1,138 @@
+-- What the code of the moves and of the refusals returns is what the definitions say: one law for each way through.
+use Prim.Native.Nat.{ℕ, zero, suc, _+_, _-_, _≤_, _<_}
+use mathlib.Core.Path.{_≡_, refl, sym}
+use mathlib.Core.Bool.{Bool, true, false, cond}
+use mathlib.Core.List.{List}
+use native.Mathlib.Omega.{arith}
+use borrow.Author.Tests.{ne-eqb, lt-ltb, le-ltb}
+use lib.ListN.{length}
+use Rattle.substitutions.specs.declared.Substitutions.{Substitutions}
+use Rattle.substitutions.specs.declared.Mode.{Mode}
+use Rattle.substitutions.specs.declared.Mode.the-variants.{Port, Sheet}
+use Rattle.substitutions.specs.Kinds.{flagOf, flagged}
+use Rattle.substitutions.specs.Held.{held, sound}
+use Rattle.substitutions.specs.Moves.{set, filled, without, led, insertOf, removeOf, prependOf, refusalOf, answer}
+use Rattle.substitutions.specs.Walks.{few}
+use Rattle.substitutions.specs.HeldLaws.{held-is, sound-is, facts}
+use Rattle.substitutions.specs.Walks.{left, leftOver}
+use Rattle.substitutions.specs.MovesLaws.{insert-held, remove-held, prepend-held}
+
+pub few-not : (f : ℕ) → (f ≡ 0 → ⊥) → (f ≡ 1 → ⊥) → (f ≡ 2 → ⊥) → (f ≡ 4 → ⊥) → (f ≡ 8 → ⊥) → (f ≡ 16 → ⊥) → (f ≡ 32 → ⊥) → (f ≡ 64 → ⊥)
+    → few f ≡ false
+unfolding few
+few-not f n0 n1 n2 n3 n4 n5 n6 n7 =
+    rw (ne-eqb f 0 n0, ne-eqb f 1 n1, ne-eqb f 2 n2, ne-eqb f 4 n3, ne-eqb f 8 n4, ne-eqb f 16 n5, ne-eqb f 32 n6, ne-eqb f 64 n7)
+
+pub left-big : (s : Substitutions) → 128 ≤ s .flags → 255 ≡ leftOver s
+unfolding leftOver
+left-big s h = rw (le-ltb (s .flags) 128 h)
+
+pub left-small : (s : Substitutions) → s .flags < 128 → left (s .flags) (s .places) ≡ leftOver s
+unfolding leftOver
+left-small s h = rw (lt-ltb (s .flags) 128 h)
+
+-- The refusals, by what is left over.
+module _ (s : Substitutions) (seven : length (s .places) ≡ 7) where
+  pub refusal-10 : (m : Mode) → few (leftOver s) ≡ false → 10 ≡ refusalOf m s
+  unfolding refusalOf
+  refusal-10 Port e = rw (held-is s seven, e)
+  refusal-10 Sheet e = rw (held-is s seven, e)
+
+  pub refusal-port : few (leftOver s) ≡ true → 0 ≡ refusalOf Port s
+  unfolding refusalOf
+  refusal-port e = rw (held-is s seven, e)
+
+  pub refusal-sheet : few (leftOver s) ≡ true → leftOver s ≡ 0 → 0 ≡ refusalOf Sheet s
+  unfolding refusalOf
+  refusal-sheet e z = rw (held-is s seven, e, sound-is s seven, z)
+
+  pub refusal-11 : few (leftOver s) ≡ true → (leftOver s ≡ 0 → ⊥) → 11 ≡ refusalOf Sheet s
+  unfolding refusalOf
+  refusal-11 e z = rw (held-is s seven, e, sound-is s seven, ne-eqb (leftOver s) 0 z)
+
+-- A set that is not refused is held.
+pub accepted : (m : Mode) (s : Substitutions) → refusalOf m s ≡ 0 → held s ≡ true
+unfolding refusalOf
+accepted Port s e = by (held s) e
+  where
+    by : (t : Bool) → _≡_ {A = ℕ} (cond t 0 10) 0 → t ≡ true
+    by true q = refl
+    by false q = absurd (omega arith)
+accepted Sheet s e = by (held s) (sound s) e
+  where
+    by : (t u : Bool) → _≡_ {A = ℕ} (cond t (cond u 0 11) 10) 0 → t ≡ true
+    by true u q = refl
+    by false u q = absurd (omega arith)
+
+-- The answers: a refusal with the set given, or what the move gives.
+pub refused : (n m : ℕ) (s moved : Substitutions) → n ≡ m → (n ≡ 0 → ⊥) → record { refusal = n; set = s } ≡ answer m s moved
+unfolding answer
+refused zero m s moved e z = absurd (z refl)
+refused (suc n) m s moved e z = rw (sym e)
+
+-- A refused call gives the set given, bit for bit.
+pub refusal-keeps : (n : ℕ) (s moved : Substitutions) → (answer n s moved .refusal ≡ 0 → ⊥) → answer n s moved .set ≡ s
+unfolding answer
+refusal-keeps zero s moved h = absurd (h refl)
+refusal-keeps (suc n) s moved h = refl
+
+pub moved-to : (m : ℕ) (s t moved : Substitutions) → m ≡ 0 → t ≡ moved → record { refusal = 0; set = t } ≡ answer m s moved
+unfolding answer
+moved-to m s t moved e q = rw (e, q)
+
+-- The moves, by the numbers that the code has at hand.
+insert-at : (s : Substitutions) (n k w : ℕ) (p : List ℕ) → flagged k (s .flags) ≡ false → p ≡ filled n k (s .places) → w ≡ flagOf k
+    → set p (s .flags + w) ≡ insertOf n k s
+unfolding insertOf
+insert-at s n k w p f u v = rw (f, u, v)
+
+remove-at : (s : Substitutions) (k w : ℕ) (p : List ℕ) → flagged k (s .flags) ≡ true → p ≡ without k (s .places) → w ≡ flagOf k
+    → set p (s .flags - w) ≡ removeOf k s
+unfolding removeOf
+remove-at s k w p f u v = rw (f, u, v)
+
+prepend-at : (s : Substitutions) (k w : ℕ) (p : List ℕ) → flagged k (s .flags) ≡ false → p ≡ led k (s .places) → w ≡ flagOf k
+    → set p (s .flags + w) ≡ prependOf k s
+unfolding prependOf
+prepend-at s k w p f u v = rw (f, u, v)
+
+prepend-on : (s : Substitutions) (k : ℕ) (p : List ℕ) → flagged k (s .flags) ≡ true → p ≡ led k (s .places) → set p (s .flags) ≡ prependOf k s
+unfolding prependOf
+prepend-on s k p f u = rw (f, u)
+
+module _ (s : Substitutions) (k j : ℕ) (e : k ≡ j) (a : 1 ≤ k) (b : k ≤ 7) (h : held s ≡ true) where
+  pub insert-none : (n : ℕ) → flagged k (s .flags) ≡ true → (s ≡ insertOf n j s) × (held s ≡ true)
+  unfolding insertOf
+  insert-none n f = (rw (sym e, f), h)
+
+  pub insert-one : (n m w : ℕ) (p : List ℕ) → n ≡ m → 6 ≤ n → n ≤ 7 → flagged k (s .flags) ≡ false → p ≡ filled n k (s .places) → w ≡ flagOf k
+      → (set p (s .flags + w) ≡ insertOf m j s) × (held (set p (s .flags + w)) ≡ true)
+  insert-one n m w p q six le f u v =
+      let r = insert-at s n k w p f u v in
+      (rw (sym q, sym e) r, rw r (insert-held s k a b n six le h))
+
+  pub remove-none : flagged k (s .flags) ≡ false → (s ≡ removeOf j s) × (held s ≡ true)
+  unfolding removeOf
+  remove-none f = (rw (sym e, f), h)
+
+  pub remove-one : (w : ℕ) (p : List ℕ) → flagged k (s .flags) ≡ true → p ≡ without k (s .places) → w ≡ flagOf k
+      → (set p (s .flags - w) ≡ removeOf j s) × (held (set p (s .flags - w)) ≡ true)
+  remove-one w p f u v =
+      let r = remove-at s k w p f u v in
+      (rw (sym e) r, rw r (remove-held s k a b h))
+
+  pub prepend-flagged : (p : List ℕ) → flagged k (s .flags) ≡ true → p ≡ led k (s .places)
+      → (set p (s .flags) ≡ prependOf j s) × (held (set p (s .flags)) ≡ true)
+  prepend-flagged p f u =
+      let r = prepend-on s k p f u in
+      (rw (sym e) r, rw r (prepend-held s k a b h))
+
+  pub prepend-new : (w : ℕ) (p : List ℕ) → flagged k (s .flags) ≡ false → p ≡ led k (s .places) → w ≡ flagOf k
+      → (set p (s .flags + w) ≡ prependOf j s) × (held (set p (s .flags + w)) ≡ true)
+  prepend-new w p f u v =
+      let r = prepend-at s k w p f u v in
+      (rw (sym e) r, rw r (prepend-held s k a b h))
+
+-- A held set has bit 7 clear.
+pub held-clear : (s : Substitutions) → held s ≡ true → s .flags < 128
+held-clear s h = facts s h .clear

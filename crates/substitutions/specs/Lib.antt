@@ -1,0 +1,12 @@
+pub mod Kinds
+pub mod Held
+pub mod Reading
+pub mod Moves
+pub mod Walks
+pub mod KindsLaws
+pub mod HeldLaws
+pub mod PlacesLaws
+pub mod MovesLaws
+pub mod AnswersLaws
+pub mod ReadingLaws
+pub mod OrderLaws

@@ -13,11 +13,9 @@ use mir.Syntax.{Name, Local, local, valueLocal, Fn, tyInt, tyRef, tyNamed, mut, 
 use mir.Val.{Val, vint, vptr}
 use base.Logic.{SProp, ent, sep, emp, via, fst∗, snd∗, exE, id⊢, assoc∗}
 use base.Fml.{GName, Lft, Share, ftrue, fat, flft, fobs, fbor}
-use prog.Memory.{Memory}
-use prog.Routine.{Routine}
 use prog.Wp.{Heap, Calls, Loops, WpFn, Tables}
 use ghost.Atoms.{Atoms, sem}
-use contract.Monad.{Fun, fact}
+use contract.Monad.{fact}
 use types.Kit.{Given, Item, Step, step, prop, ‵, raw, some, later, _⊛_, _$_, _∵_, !, qed, by, move, keep, drop, use1, split, join, pick, fsplit, fsplit3, fjoin, fjoin3, feqI, rewrite, suffices, frame, await, done}
 use types.Part.{whole, sub, look-in}
 use types.Run.{look, init, store-raw, forget, stop, hop, fld, from, load, and-then, no-more, of-opd, assigns, land, returns, enter, alloc1, alloc0, params1, pass1, pass0, free1, free0}
@@ -29,7 +27,7 @@ use denote.Memory.{mem, cellAt}
 use denote.Plain.{uint-makes}
 use denote.Builtin.{usize, RefMutOf}
 use denote.Ref.{RefT, now, MutRef, ptr-vals, mut-tells}
-use denote.Signature.{Signature, plain}
+use denote.Signature.{plain}
 use denote.Steps.{opens, closes, owned, peeks, facts, heard, nothing, only}
 use denote.Struct.Steps.{spelt}
 use denote.Struct.Laws as LL
@@ -107,16 +105,16 @@ abbrev stayed : Stays (lent .signature .params) (lent .kept)
 stayed = (stay-ref (0 ∷ []) tt (plain (λ _. T.the-row)), (stay-none (λ _. N.the-row) yes, (stay-none (λ _. K.the-row) yes, tt)))
 
 -- ---- the machine values of a set, of an answer, of a mode and of a kind
-abbrev sval : Substitutions → Val
+abbrev pub sval : Substitutions → Val
 sval = LL.val T.the-type T′.the-laws
 
-abbrev aval : SetAnswer → Val
+abbrev pub aval : SetAnswer → Val
 aval = LL.val S.the-type S′.the-laws
 
-abbrev nval : Mode → Val
+abbrev pub nval : Mode → Val
 nval = EL.val N.the-type N′.the-laws
 
-abbrev kval : Subs → Val
+abbrev pub kval : Subs → Val
 kval = EL.val K.the-type K′.the-laws
 
 -- whoever holds an answer knows that its number fits, and what relates its set to the set's machine value

@@ -16,10 +16,10 @@ insert-sheet-requires : tie.Need-insert-sheet-requires
 insert-sheet-requires c κs = search needs
 
 returns : tie.Need-returns
-returns c = rw (c .before .enum-told .given .1) (c .insert .ensures)
+returns c = cc (c .before .enum-told .given .1, c .insert .ensures)
 
 returns-2 : tie.Need-returns-2
-returns-2 c = rw (c .before .enum-told2 .given .1) (c .insert-sheet .ensures)
+returns-2 c = cc (c .before .enum-told2 .given .1, c .insert-sheet .ensures)
 
 pub inserted-spec : {M : Type 1} → statement M
 inserted-spec =

@@ -16,10 +16,10 @@ prepend-sheet-requires : tie.Need-prepend-sheet-requires
 prepend-sheet-requires c κs = search needs
 
 returns : tie.Need-returns
-returns c = rw (c .before .enum-told .given .1) (c .prepend .ensures)
+returns c = cc (c .before .enum-told .given .1, c .prepend .ensures)
 
 returns-2 : tie.Need-returns-2
-returns-2 c = rw (c .before .enum-told2 .given .1) (c .prepend-sheet .ensures)
+returns-2 c = cc (c .before .enum-told2 .given .1, c .prepend-sheet .ensures)
 
 pub prepended-spec : {M : Type 1} → statement M
 prepended-spec =

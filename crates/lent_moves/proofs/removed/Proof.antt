@@ -16,10 +16,10 @@ remove-sheet-requires : tie.Need-remove-sheet-requires
 remove-sheet-requires c κs = search needs
 
 returns : tie.Need-returns
-returns c = rw (c .before .enum-told .given .1) (c .remove .ensures)
+returns c = cc (c .before .enum-told .given .1, c .remove .ensures)
 
 returns-2 : tie.Need-returns-2
-returns-2 c = rw (c .before .enum-told2 .given .1) (c .remove-sheet .ensures)
+returns-2 c = cc (c .before .enum-told2 .given .1, c .remove-sheet .ensures)
 
 pub removed-spec : {M : Type 1} → statement M
 removed-spec =

@@ -18,6 +18,7 @@ ghost use Rattle.substitutions.specs.Held.{held, sound};
 ghost use Rattle.substitutions.specs.Moves.{empty-set, room, insertOf, removeOf, prependOf, refusalOf, refusedWith, insertAnswer, removeAnswer, prependAnswer};
 ghost use Rattle.substitutions.specs.Walks.{leftOver};
 
+// Kinds 1 to 7, in this order.
 pub enum Subs {
     SpecialChars,
     InlineFormatting,

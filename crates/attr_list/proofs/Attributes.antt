@@ -1,0 +1,72 @@
+-- The loop over the attributes, with the commas in a lent slice: the first n of `commas` are those that part.
+use Prim.Native.Nat.{ℕ, zero, suc, _+_, _*_, _-_, _≤_, _<_}
+use native.Mathlib.Omega.{arith}
+use mathlib.Core.Bool.{Bool, true, false}
+use mathlib.Core.Path.{_≡_, refl, sym, ap, subst, _∙_}
+use mathlib.Core.List.{List, [], _∷_}
+use lib.ListN.{length, getD, take}
+use lib.Seq.{getD-take, length-take-le}
+use Rattle.token.specs.Line.{Line}
+use Rattle.token.specs.Run.{kept}
+use Rattle.row.specs.Row.{width, withRows}
+use Rattle.row.specs.Laws.{Wrote}
+use Rattle.delimiters.specs.Delimit.{dividing, parted}
+use Rattle.attribute.specs.declared.Written.{Written}
+use Rattle.attribute.specs.Attribute as one
+use Rattle.attribute.specs.Attribute.{attribute}
+use Rattle.attribute.specs.Parts.{written}
+use Rattle.attr_list.specs.Reading.{rowsFrom, lastBegins}
+use Rattle.attr_list.specs.Laws.{Listing, listing-comma, listing-end, listing-next, listing-last}
+
+-- ---- where the last attribute begins
+
+pub begins-last : (from : ℕ) (cs : List ℕ) → 0 < length cs → lastBegins from cs ≡ getD cs (length cs - 1) 0 + 1
+unfolding lastBegins
+begins-last from [] h = absurd (omega arith)
+begins-last from (c ∷ []) h = refl
+begins-last from (c ∷ d ∷ cs) h =
+    let e : suc (suc (length cs)) - 1 ≡ suc (suc (length cs) - 1) = omega arith in
+    begins-last (c + 1) (d ∷ cs) (omega arith) ∙ sym (ap (λ (k : ℕ). getD (c ∷ d ∷ cs) k 0 + 1) e)
+
+module _ (kinds commas : List ℕ) (n : ℕ) (enough : n ≤ length commas) (same : take n commas ≡ dividing kinds) where
+  pub begins-none : n ≡ 0 → 0 ≡ lastBegins 0 (dividing kinds)
+  unfolding lastBegins
+  begins-none e = sym (ap (lastBegins 0) (sym same ∙ ap (λ (k : ℕ). take k commas) e))
+
+  pub begins-some : (c : ℕ) → 0 < n → c ≡ getD commas (n - 1) 0 → c + 1 ≡ lastBegins 0 (dividing kinds)
+  begins-some c some e =
+      let long : length (take n commas) ≡ n = length-take-le n commas enough in
+      let last : getD (take n commas) (length (take n commas) - 1) 0 ≡ c = ap (λ (k : ℕ). getD (take n commas) (k - 1) 0) long ∙ getD-take n commas (n - 1) 0 (omega arith) ∙ sym e in
+      sym (ap (lastBegins 0) (sym same) ∙ begins-last 0 (take n commas) (omega (arith, long)) ∙ ap (λ (k : ℕ). k + 1) last)
+
+-- ---- the loop
+
+module _ (l : Line) (commas : List ℕ) (n end : ℕ) (block : Bool) (base : List ℕ) (enough : n ≤ length commas) where
+  comma-is : (j c : ℕ) → j < n → c ≡ getD commas j 0 → getD (take n commas) j 0 ≡ c
+  comma-is j c h e = getD-take n commas j 0 h ∙ sym e
+
+  among : (j : ℕ) → j < n → j < length (take n commas)
+  among j h = omega (arith, length-take-le n commas enough)
+
+  module _ (cur : List ℕ) (from at : ℕ) (id : Bool) (j : ℕ) (w : Listing l (take n commas) end block base cur from at id j) (tokens : ℕ) (within : end ≤ tokens) (room : width * (end + 1) ≤ length base) where
+    -- what the reading of an attribute asks
+    pub comma-room : (c : ℕ) → j < n → c ≡ getD commas j 0 → (from ≤ c) × (c ≤ tokens) × (width * (at + (c - from) + 1) ≤ length cur)
+    comma-room c h e =
+        let v = subst (λ (x : ℕ). (from ≤ x) × (x < end)) (comma-is j c h e) (listing-comma l (take n commas) end block base cur from at id j w (among j h)) in
+        (v .0, omega (arith, v .1), omega (arith, v .0, v .1, w .few, w .writes .long))
+
+    pub end-room : (from ≤ end) × (end ≤ tokens) × (width * (at + (end - from) + 1) ≤ length cur)
+    end-room =
+        let v = listing-end l (take n commas) end block base cur from at id j w in
+        (v, within, omega (arith, v, w .few, w .writes .long))
+
+  module _ (cur : List ℕ) (from at : ℕ) (id : Bool) (j : ℕ) (w : Listing l (take n commas) end block base cur from at id j) where
+    pub next : (c : ℕ) → j < n → c ≡ getD commas j 0 → (r : Written) (after : List ℕ) → r ≡ written at (attribute block id (kept l from c)) → after ≡ withRows cur at (attribute block id (kept l from c) .rows) → r .rows ≤ at + (c - from) + 1 → Listing l (take n commas) end block base after (c + 1) (r .rows) (r .id) (j + 1)
+    next c h e r after answers fills few =
+        let s : getD (take n commas) j 0 ≡ c = comma-is j c h e in
+        subst (λ (x : ℕ). Listing l (take n commas) end block base after (x + 1) (r .rows) (r .id) (j + 1)) s
+        (listing-next l (take n commas) end block base cur from at id j w (among j h) after (r .rows) (r .id) (attribute block id (kept l from c)) (ap (λ (x : ℕ). attribute block id (kept l from x)) (sym s)) (record { count = ap (λ (x : Written). x .rows) answers; buffer = fills }) (ap (λ (x : Written). x .id) answers) (subst (λ (x : ℕ). r .rows ≤ at + (x - from) + 1) (sym s) few))
+
+    pub last : n ≤ j → (r : Written) (after : List ℕ) → r ≡ written at (attribute block id (kept l from end)) → after ≡ withRows cur at (attribute block id (kept l from end) .rows) → Wrote base 0 (rowsFrom l block false (parted 0 (take n commas) end) .rows) after (r .rows)
+    last h r after answers fills =
+        listing-last l (take n commas) end block base cur from at id j w (omega (arith, length-take-le n commas enough)) after (r .rows) (attribute block id (kept l from end)) refl (record { count = ap (λ (x : Written). x .rows) answers; buffer = fills })

@@ -1,0 +1,71 @@
+use borrow.Author.Needs.{needs}
+use Prim.Native.Nat.{ℕ, zero, suc, _+_, _*_, _-_, _≤_, _<_}
+use native.Mathlib.Omega.{arith}
+use native.Mathlib.Numerals.{add-one}
+use mathlib.Core.Bool.{Bool, true, false, cond, not, _&&_, _||_}
+use mathlib.Core.Path.{_≡_, refl, sym, ap, subst, _∙_}
+use mathlib.Core.Logic.{⊎-elim}
+use mathlib.Core.List.{List, [], _∷_, _++_}
+use lib.Dec.{eqb}
+use lib.ListN.{length, getD, take, drop, set, length-set}
+use borrow.Author.Tests.{eq-eqb, ne-eqb, lt-ltb, le-ltb, le-leb, lt-leb}
+use Rattle.attr_list.proofs.Readings.{text-among}
+use Rattle.attr_list.specs.Reading.{answer, buffer, linkTo}
+use Rattle.token.specs.Line.{lineOf}
+use Rattle.attr_list.proofs.read.read_link.Statement.{statement}
+use Rattle.attr_list.proofs.read.read_link.Tie as tie
+use Rattle.attr_list.proofs.read.read_link.Reads as reads
+use Rattle.attr_list.proofs.read.read_link.Lts as lts
+use Rattle.attr_list.proofs.read.read_list.Reads as read-list-reads
+use Rattle.attr_list.proofs.read.read_text.Reads as read-text-reads
+use Rattle.closing.proofs.link_macro.Reads as link-macro-reads
+
+-- src/read.rt:129:9
+link-macro-requires : tie.Need-link-macro-requires
+link-macro-requires c κs = search needs
+
+-- src/read.rt:131:60
+enum-told : tie.Need-enum-told
+enum-told c = c .match .keys1
+
+-- src/read.rt:131:30
+read-list-requires : tie.Need-read-list-requires
+read-list-requires c κs = search needs
+
+-- src/read.rt:132:27
+enum-known-holds : tie.Need-enum-known-holds
+enum-known-holds c = c .match .keys2
+
+-- src/read.rt:132:35
+read-text-requires : tie.Need-read-text-requires
+read-text-requires c κs = (c .before .before .before .before .before .before .before .before .before .pre .0, (c .before .before .before .before .before .before .before .before .before .pre .1 .0, text-among (c .before .before .before .before .before .before .before .before .before .args .kinds .now) (c .before .before .before .before .before .before .before .before .before .args .pairs .now) (c .before .before .before .before .link-macro .result) (c .before .before .before .before .link-macro .ensures) (c .before .before .before .before .before .before .before .before .before .pre .0 .some) (c .before .before .holds .given .0 .0) (c .before .before .holds .given .1)))
+
+-- src/read.rt:123:1
+same-length : tie.Need-same-length
+same-length c = search needs
+
+-- src/read.rt:123:1
+returns : tie.Need-returns
+returns c = (let e = sym (c .before .before .before .before .enum-told .given .1) ∙ c .before .before .before .before .before .before .link-macro .ensures in (c .before .before .read-list .ensures .0 ∙ ap (λ m. answer (linkTo (lineOf (c .before .before .before .before .before .before .before .before .before .before .before .args .kinds .now) (c .before .before .before .before .before .before .before .before .before .before .before .args .text .now) (c .before .before .before .before .before .before .before .before .before .before .before .args .pairs .now)) m)) e, c .before .before .read-list .ensures .1 ∙ ap (λ m. buffer (c .before .before .before .before .before .before .before .before .before .before .before .args .rows .now) (linkTo (lineOf (c .before .before .before .before .before .before .before .before .before .before .before .args .kinds .now) (c .before .before .before .before .before .before .before .before .before .before .before .args .text .now) (c .before .before .before .before .before .before .before .before .before .before .before .args .pairs .now)) m)) e))
+
+-- src/read.rt:123:1
+same-length-2 : tie.Need-same-length-2
+same-length-2 c = search needs
+
+-- src/read.rt:123:1
+returns-2 : tie.Need-returns-2
+returns-2 c = (let e = sym (c .before .before .before .before .before .holds .given .1) ∙ c .before .before .before .before .before .before .before .link-macro .ensures in (c .before .before .read-text .ensures .0 ∙ ap (λ m. answer (linkTo (lineOf (c .before .before .before .before .before .before .before .before .before .before .before .before .args .kinds .now) (c .before .before .before .before .before .before .before .before .before .before .before .before .args .text .now) (c .before .before .before .before .before .before .before .before .before .before .before .before .args .pairs .now)) m)) e, c .before .before .read-text .ensures .1 ∙ ap (λ m. buffer (c .before .before .before .before .before .before .before .before .before .before .before .before .args .rows .now) (linkTo (lineOf (c .before .before .before .before .before .before .before .before .before .before .before .before .args .kinds .now) (c .before .before .before .before .before .before .before .before .before .before .before .before .args .text .now) (c .before .before .before .before .before .before .before .before .before .before .before .before .args .pairs .now)) m)) e))
+
+pub read-link-spec : {M : Type 1} → statement M
+read-link-spec =
+    tie.close
+    (tie.spec
+    link-macro-requires
+    enum-told
+    read-list-requires
+    enum-known-holds
+    read-text-requires
+    same-length
+    returns
+    same-length-2
+    returns-2)

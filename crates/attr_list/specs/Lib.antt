@@ -1,0 +1,5 @@
+pub mod Reading
+pub mod ReadAsList
+pub mod Bench
+pub mod Laws
+pub mod ReadAsListLaws

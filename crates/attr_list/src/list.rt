@@ -1,0 +1,71 @@
+// The attributes of a list: where the last ends, and their rows.
+use attribute::parse_attr;
+use closing::Closing;
+use closing::last_bracket;
+use closing::next_bracket;
+use token::TokenPlace;
+ghost use mathlib.Core.Path.{_≡_};
+ghost use mathlib.Core.Bool.{false};
+ghost use Prim.Native.Nat.{_+_, _*_, _≤_, _<_};
+ghost use lib.ListN.{length, take};
+ghost use Rattle.token.specs.Line.{lineOf};
+ghost use Rattle.token.specs.LineLaws.{Lent};
+ghost use Rattle.row.specs.Row.{width, withRows};
+ghost use Rattle.delimiters.specs.Delimit.{dividing, parted};
+ghost use Rattle.delimiters.specs.Divide.{Ascending};
+ghost use Rattle.attr_list.specs.Reading.{closing, rowsFrom};
+
+fn wide(x: u16) -> usize
+    ensures { λ r. ⌜ r ≡ x ⌝ }
+{
+    x as usize
+}
+
+// The closing bracket of a line; the first `n` of `commas` are its dividing commas. `full` says that the list is the rest of a full line, which its last token closes.
+pub fn closing_bracket<'a>(kinds: &'a [u8], commas: &'a [u16], n: usize, full: bool) -> Closing
+    requires { ⌜ (n ≤ length (now commas)) × (0 < length (now kinds)) × (take n (now commas) ≡ dividing (now kinds)) ⌝ }
+    ensures closing { λ r. ⌜ r ≡ closing full (now (kinds .entry)) ⌝ }
+{
+    if full {
+        return last_bracket(kinds);
+    }
+    if n == 0 {
+        return next_bracket(kinds, TokenPlace(0));
+    }
+    let last = wide(commas[n - 1]);
+    next_bracket(kinds, TokenPlace(last + 1))
+}
+
+// Writes the rows of the attributes that the first `n` of `commas` part, first to last, and answers how many there are. The last attribute goes on to
+// the closing bracket at `end`. `block` says that the entry is the block entry.
+pub fn list_rows<'a, 'b>(
+    kinds: &'a [u8],
+    text: &'a [u8],
+    pairs: &'a [u32],
+    commas: &'a [u16],
+    n: usize,
+    end: TokenPlace,
+    block: bool,
+    rows: &'b mut [u32],
+) -> usize
+    requires { ⌜ Lent (now kinds) (now text) (now pairs) ⌝ }
+    requires { ⌜ (n ≤ length (now commas)) × (end .0 ≤ length (now kinds)) × (width * (end .0 + 1) ≤ length (now rows)) ⌝ }
+    requires { ⌜ Ascending 0 (take n (now commas)) (end .0) ⌝ }
+    ensures count { λ r. ⌜ r ≡ length (rowsFrom (lineOf (now (kinds .entry)) (now (text .entry)) (now (pairs .entry))) block false (parted 0 (take n (now (commas .entry))) (end .0)) .rows) ⌝ }
+    ensures buffer { λ _. ⌜ now (rows .exit) ≡ withRows (now (rows .entry)) 0 (rowsFrom (lineOf (now (kinds .entry)) (now (text .entry)) (now (pairs .entry))) block false (parted 0 (take n (now (commas .entry))) (end .0)) .rows) ⌝ }
+{
+    let mut from: usize = 0;
+    let mut at: usize = 0;
+    let mut id = false;
+    let mut j: usize = 0;
+    while j < n {
+        let comma = wide(commas[j]);
+        let written = parse_attr(kinds, text, pairs, TokenPlace(from), TokenPlace(comma), block, id, rows, at);
+        at = written.rows;
+        id = written.id;
+        from = comma + 1;
+        j += 1;
+    }
+    let last = parse_attr(kinds, text, pairs, TokenPlace(from), end, block, id, rows, at);
+    last.rows
+}

@@ -1,0 +1,165 @@
+// A line read by an entry: the refusals in the table's order, then the rows. Nothing is written before every refusal has been ruled out.
+use super::Answer;
+use super::Entry;
+use super::list::closing_bracket;
+use super::list::list_rows;
+use closing::Closing;
+use closing::LinkMacro;
+use closing::link_macro;
+use delimiters::find_delimiters;
+use row::has_room;
+use row::one_run;
+use row::put_row;
+use row::tag::POSITIONAL;
+use token::TokenPlace;
+use token::kind::CLOSE_BRACKET;
+use token::line::line_refusal;
+use token::runs::unquote;
+ghost use mathlib.Core.Path.{_≡_};
+ghost use mathlib.Core.Bool.{false};
+ghost use Prim.Native.Nat.{_+_, _*_, _≤_, _<_};
+ghost use lib.ListN.{length};
+ghost use Rattle.token.specs.Kind.{closeBracket};
+ghost use Rattle.token.specs.Line.{lineOf, mostTokens};
+ghost use Rattle.token.specs.LineLaws.{Lent};
+ghost use Rattle.row.specs.Row.{width};
+ghost use Rattle.delimiters.specs.Count.{kindAt};
+ghost use Rattle.closing.specs.Link.{linkMacro};
+ghost use Rattle.attr_list.specs.declared.Entry.the-variants.{Link};
+ghost use Rattle.attr_list.specs.Reading.{answer, buffer, closing, listTo, textTo, readBy, turnedAway, reading};
+
+// Lines of so many tokens have their commas in a small array, which is cleared sooner than the large one.
+const SHORT: usize = 64;
+
+// The number with which 1 to 7 refuse a line of at most `most` tokens and a row buffer of `room` numbers, 0 where none does.
+fn turned_away<'a>(kinds: &'a [u8], text: &'a [u8], pairs: &'a [u32], room: usize, most: usize) -> usize
+    ensures number { λ r. ⌜ r ≡ turnedAway most (lineOf (now (kinds .entry)) (now (text .entry)) (now (pairs .entry))) room ⌝ }
+{
+    let refused = line_refusal(kinds, text, pairs, most);
+    if refused != 0 {
+        return refused;
+    }
+    if !has_room(room, kinds.len()) {
+        return 7;
+    }
+    0
+}
+
+// Reads a list whose commas are put into `commas`.
+fn read_list_in<'a, 'b, 'c>(
+    kinds: &'a [u8],
+    text: &'a [u8],
+    pairs: &'a [u32],
+    commas: &'c mut [u16],
+    rows: &'b mut [u32],
+    full: bool,
+    block: bool,
+) -> Answer
+    requires { ⌜ Lent (now kinds) (now text) (now pairs) ⌝ }
+    requires { ⌜ (width * length (now kinds) ≤ length (now rows)) × (length (now kinds) ≤ length (now commas)) × (kindAt (now kinds) 0 ≡ closeBracket → ⊥) ⌝ }
+    ensures answer { λ r. ⌜ r ≡ answer (listTo (lineOf (now (kinds .entry)) (now (text .entry)) (now (pairs .entry))) block (closing full (now (kinds .entry)))) ⌝ }
+    ensures buffer { λ _. ⌜ now (rows .exit) ≡ buffer (now (rows .entry)) (listTo (lineOf (now (kinds .entry)) (now (text .entry)) (now (pairs .entry))) block (closing full (now (kinds .entry)))) ⌝ }
+{
+    let delimited = find_delimiters(kinds, commas);
+    let n = delimited.commas;
+    let closing = closing_bracket(kinds, commas, n, full);
+    let Closing::At(end) = closing else {
+        return Answer::Refused(8);
+    };
+    let written = list_rows(kinds, text, pairs, commas, n, end, block, rows);
+    Answer::Read {
+        rows: written,
+        consumed: end.0 + 1,
+    }
+}
+
+// Reads a list.
+fn read_list<'a, 'b>(
+    kinds: &'a [u8],
+    text: &'a [u8],
+    pairs: &'a [u32],
+    rows: &'b mut [u32],
+    full: bool,
+    block: bool,
+) -> Answer
+    requires { ⌜ Lent (now kinds) (now text) (now pairs) ⌝ }
+    requires { ⌜ (width * length (now kinds) ≤ length (now rows)) × (kindAt (now kinds) 0 ≡ closeBracket → ⊥) ⌝ }
+    ensures answer { λ r. ⌜ r ≡ answer (listTo (lineOf (now (kinds .entry)) (now (text .entry)) (now (pairs .entry))) block (closing full (now (kinds .entry)))) ⌝ }
+    ensures buffer { λ _. ⌜ now (rows .exit) ≡ buffer (now (rows .entry)) (listTo (lineOf (now (kinds .entry)) (now (text .entry)) (now (pairs .entry))) block (closing full (now (kinds .entry)))) ⌝ }
+{
+    if kinds.len() <= SHORT {
+        let mut few = [0u16; 64];
+        return read_list_in(kinds, text, pairs, &mut few, rows, full, block);
+    }
+    let mut commas = [0u16; 4096];
+    read_list_in(kinds, text, pairs, &mut commas, rows, full, block)
+}
+
+// Reads a link's text, which ends before the token at `end`.
+fn read_text<'a, 'b>(
+    kinds: &'a [u8],
+    text: &'a [u8],
+    pairs: &'a [u32],
+    end: TokenPlace,
+    rows: &'b mut [u32],
+) -> Answer
+    requires { ⌜ Lent (now kinds) (now text) (now pairs) ⌝ }
+    requires { ⌜ (width * length (now kinds) ≤ length (now rows)) × (end .0 < length (now kinds)) ⌝ }
+    ensures answer { λ r. ⌜ r ≡ answer (textTo (lineOf (now (kinds .entry)) (now (text .entry)) (now (pairs .entry))) (end .0)) ⌝ }
+    ensures buffer { λ _. ⌜ now (rows .exit) ≡ buffer (now (rows .entry)) (textTo (lineOf (now (kinds .entry)) (now (text .entry)) (now (pairs .entry))) (end .0)) ⌝ }
+{
+    let last = end.0;
+    if kinds[last] != CLOSE_BRACKET {
+        return Answer::Refused(8);
+    }
+    put_row(rows, 0, one_run(POSITIONAL, unquote(kinds, TokenPlace(0), end)));
+    Answer::Read {
+        rows: 1,
+        consumed: last + 1,
+    }
+}
+
+// Reads what a link's brackets hold.
+fn read_link<'a, 'b>(kinds: &'a [u8], text: &'a [u8], pairs: &'a [u32], rows: &'b mut [u32]) -> Answer
+    requires { ⌜ Lent (now kinds) (now text) (now pairs) ⌝ }
+    requires { ⌜ (width * length (now kinds) ≤ length (now rows)) × (kindAt (now kinds) 0 ≡ closeBracket → ⊥) ⌝ }
+    ensures answer { λ r. ⌜ r ≡ answer (readBy Link (lineOf (now (kinds .entry)) (now (text .entry)) (now (pairs .entry)))) ⌝ }
+    ensures buffer { λ _. ⌜ now (rows .exit) ≡ buffer (now (rows .entry)) (readBy Link (lineOf (now (kinds .entry)) (now (text .entry)) (now (pairs .entry)))) ⌝ }
+{
+    let holds = link_macro(kinds, pairs);
+    match holds {
+        LinkMacro::AsList => read_list(kinds, text, pairs, rows, false, false),
+        LinkMacro::AsText(end) => read_text(kinds, text, pairs, end, rows),
+    }
+}
+
+// Reads a line of at most `most` tokens by an entry.
+pub fn read_line<'a, 'b>(
+    kinds: &'a [u8],
+    text: &'a [u8],
+    pairs: &'a [u32],
+    rows: &'b mut [u32],
+    most: usize,
+    entry: Entry,
+) -> Answer
+    requires { ⌜ most ≤ mostTokens ⌝ }
+    ensures answer { λ r. ⌜ r ≡ answer (reading most entry (lineOf (now (kinds .entry)) (now (text .entry)) (now (pairs .entry))) (length (now (rows .entry)))) ⌝ }
+    ensures buffer { λ _. ⌜ now (rows .exit) ≡ buffer (now (rows .entry)) (reading most entry (lineOf (now (kinds .entry)) (now (text .entry)) (now (pairs .entry))) (length (now (rows .entry)))) ⌝ }
+{
+    let refused = turned_away(kinds, text, pairs, rows.len(), most);
+    if refused != 0 {
+        return Answer::Refused(refused);
+    }
+    if kinds[0] == CLOSE_BRACKET {
+        return Answer::Read {
+            rows: 0,
+            consumed: 1,
+        };
+    }
+    match entry {
+        Entry::Block => read_list(kinds, text, pairs, rows, true, true),
+        Entry::BlockMacro => read_list(kinds, text, pairs, rows, true, false),
+        Entry::Inline => read_list(kinds, text, pairs, rows, false, false),
+        Entry::Link => read_link(kinds, text, pairs, rows),
+    }
+}

@@ -26,7 +26,7 @@ use Rattle.closing.specs.Closing.{at, lastBracket, nextBracket}
 use Rattle.closing.specs.Laws.{Found, FoundLast, next-found, last-found}
 use Rattle.attribute.specs.Attribute as one
 use Rattle.attribute.specs.Attribute.{attribute}
-use Rattle.attribute.specs.Laws.{rows-few}
+use Rattle.attribute.specs.Laws.{orOne, rows-few}
 use Rattle.attr_list.specs.Reading.{rowsFrom, listRows, lastBegins, closing}
 
 -- ---- the rows of a list are no more than its tokens through the closing bracket, so a buffer that 7 lets pass has room for them
@@ -49,8 +49,12 @@ pub kept-few : (l : Line) (from to : ℕ) → length (kept l from to) ≤ to - f
 unfolding kept
 kept-few l from to = omega (arith, without-few isAttrRef (tokens l from (to - from)), tokens-length l from (to - from))
 
+or-one-few : (n : ℕ) → orOne n ≤ n + 1
+or-one-few zero = omega arith
+or-one-few (suc n) = omega arith
+
 attribute-few : (block has : Bool) (ts : List Token) → length (attribute block has ts .rows) ≤ length ts + 1
-attribute-few block has ts = omega (arith, rows-few block has ts)
+attribute-few block has ts = omega (arith, rows-few block has ts, or-one-few (length ts))
 
 pub parted-few : (l : Line) (block has : Bool) (from : ℕ) (cs : List ℕ) (end : ℕ) → Ascending from cs end → length (rowsFrom l block has (parted from cs end) .rows) ≤ end - from + 1
 unfolding rowsFrom parted

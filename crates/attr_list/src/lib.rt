@@ -27,7 +27,12 @@ pub enum Answer {
 }
 
 // The attribute list of a block, which is the rest of its line.
-pub fn parse_block_attr_list<'a, 'b>(kinds: &'a [u8], text: &'a [u8], pairs: &'a [u32], rows: &'b mut [u32]) -> Answer
+pub fn parse_block_attr_list<'a, 'b>(
+    kinds: &'a [u8],
+    text: &'a [u8],
+    pairs: &'a [u32],
+    rows: &'b mut [u32],
+) -> Answer
     ensures answer { λ r. ⌜ r ≡ answer (reading mostTokens Block (lineOf (now (kinds .entry)) (now (text .entry)) (now (pairs .entry))) (length (now (rows .entry)))) ⌝ }
     ensures buffer { λ _. ⌜ now (rows .exit) ≡ buffer (now (rows .entry)) (reading mostTokens Block (lineOf (now (kinds .entry)) (now (text .entry)) (now (pairs .entry))) (length (now (rows .entry)))) ⌝ }
     ensures list { λ r. ⌜ WhenReadAsList Block (lineOf (now (kinds .entry)) (now (text .entry)) (now (pairs .entry))) (now (rows .entry)) r (now (rows .exit)) ⌝ }

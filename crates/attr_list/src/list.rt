@@ -60,12 +60,32 @@ pub fn list_rows<'a, 'b>(
     let mut j: usize = 0;
     while j < n {
         let comma = wide(commas[j]);
-        let written = parse_attr(kinds, text, pairs, TokenPlace(from), TokenPlace(comma), block, id, rows, at);
+        let written = parse_attr(
+            kinds,
+            text,
+            pairs,
+            TokenPlace(from),
+            TokenPlace(comma),
+            block,
+            id,
+            rows,
+            at,
+        );
         at = written.rows;
         id = written.id;
         from = comma + 1;
         j += 1;
     }
-    let last = parse_attr(kinds, text, pairs, TokenPlace(from), end, block, id, rows, at);
+    let last = parse_attr(
+        kinds,
+        text,
+        pairs,
+        TokenPlace(from),
+        end,
+        block,
+        id,
+        rows,
+        at,
+    );
     last.rows
 }

@@ -32,7 +32,13 @@ ghost use Rattle.attr_list.specs.Reading.{answer, buffer, closing, listT
 const SHORT: usize = 64;
 
 // The number with which 1 to 7 refuse a line of at most `most` tokens and a row buffer of `room` numbers, 0 where none does.
-fn turned_away<'a>(kinds: &'a [u8], text: &'a [u8], pairs: &'a [u32], room: usize, most: usize) -> usize
+fn turned_away<'a>(
+    kinds: &'a [u8],
+    text: &'a [u8],
+    pairs: &'a [u32],
+    room: usize,
+    most: usize,
+) -> usize
     ensures number { λ r. ⌜ r ≡ turnedAway most (lineOf (now (kinds .entry)) (now (text .entry)) (now (pairs .entry))) room ⌝ }
 {
     let refused = line_refusal(kinds, text, pairs, most);
@@ -112,7 +118,11 @@ fn read_text<'a, 'b>(
     if kinds[last] != CLOSE_BRACKET {
         return Answer::Refused(8);
     }
-    put_row(rows, 0, one_run(POSITIONAL, unquote(kinds, TokenPlace(0), end)));
+    put_row(
+        rows,
+        0,
+        one_run(POSITIONAL, unquote(kinds, TokenPlace(0), end)),
+    );
     Answer::Read {
         rows: 1,
         consumed: last + 1,
@@ -120,7 +130,12 @@ fn read_text<'a, 'b>(
 }
 
 // Reads what a link's brackets hold.
-fn read_link<'a, 'b>(kinds: &'a [u8], text: &'a [u8], pairs: &'a [u32], rows: &'b mut [u32]) -> Answer
+fn read_link<'a, 'b>(
+    kinds: &'a [u8],
+    text: &'a [u8],
+    pairs: &'a [u32],
+    rows: &'b mut [u32],
+) -> Answer
     requires { ⌜ Lent (now kinds) (now text) (now pairs) ⌝ }
     requires { ⌜ (width * length (now kinds) ≤ length (now rows)) × (kindAt (now kinds) 0 ≡ closeBracket → ⊥) ⌝ }
     ensures answer { λ r. ⌜ r ≡ answer (readBy Link (lineOf (now (kinds .entry)) (now (text .entry)) (now (pairs .entry)))) ⌝ }

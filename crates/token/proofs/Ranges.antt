@@ -11,9 +11,9 @@ use borrow.Author.Tests.{eq-eqb, ne-eqb, eqb-true, eqb-false, lt-ltb, le-ltb}
 use Rattle.token.specs.declared.Run.{Run}
 use Rattle.token.specs.Kind.{attrRef, doubleQuote, singleQuote, whitespace}
 use Rattle.token.specs.Line.{Line, Token, lineOf, tokenAt}
-use Rattle.token.specs.Run.{kept, trimStart, trimEnd, trim, run, emptyRun, runOf, inRun, between}
+use Rattle.token.specs.Run.{kept, trimStart, trimEnd, trim, run, emptyRun, runOf, inRun, firstPlace, between}
 use Rattle.token.specs.Kept.{Ends, is-kind, not-kind, kept-none, kept-first, kept-skip, kept-last, kept-last-skip, trimStart-space, trimStart-stop, trimStart-none, trimEnd-space, trimEnd-stop, trimEnd-none}
-use Rattle.token.specs.Parts.{all, Narrowed, StartsAt, EndsAt, Part, run-here, run-empty}
+use Rattle.token.specs.Parts.{all, Narrowed, StartsAt, EndsAt, Part, starts-place, run-here, run-empty}
 
 -- ---- from the left: what is left of from..to at i has the same f
 
@@ -36,6 +36,22 @@ module _ (f : List Token → List Token) (kinds : List ℕ) (from to : ℕ) wher
 
   pub left-end : (i : ℕ) → to ≤ i → f [] ≡ [] → Left f kinds from to i → StartsAt f kinds from to i
   left-end i h g w = left-done i (λ text pairs. ap f (kept-none (lineOf kinds text pairs) i to h) ∙ g ∙ sym (kept-none (lineOf kinds text pairs) i to h)) (λ lt. absurd (omega arith)) w
+
+-- the place of the first kept token, given by the equation alone, is where what is kept of from..to starts
+module _ (kinds : List ℕ) (from to r : ℕ) (p : (text pairs : List ℕ) → r ≡ firstPlace to (kept (lineOf kinds text pairs) from to)) where
+  first-at : (i : ℕ) → StartsAt all kinds from to i → StartsAt all kinds from to r
+  first-at i w = subst (λ (n : ℕ). StartsAt all kinds from to n) (starts-place all kinds from to i w [] [] ∙ sym (p [] [])) w
+
+  first-left : (n i : ℕ) → to - i ≡ n → Left all kinds from to i → StartsAt all kinds from to r
+  first-left zero i e w = first-at i (left-end all kinds from to i (omega arith) refl w)
+  first-left (suc n) i e w = go (eqb (getD kinds i 0) attrRef) refl (λ v. first-left n (i + 1) (omega arith) v)
+    where
+      go : (b : Bool) → eqb (getD kinds i 0) attrRef ≡ b → (Left all kinds from to (i + 1) → StartsAt all kinds from to r) → StartsAt all kinds from to r
+      go true f on = on (left-skip all kinds from to i (omega arith) (eqb-true _ _ f) w)
+      go false f on = first-at i (left-done all kinds from to i (λ text pairs. refl) (λ lt. eqb-false _ _ f) w)
+
+  pub first-starts : from ≤ to → StartsAt all kinds from to r
+  first-starts h = first-left (to - from) from refl (left-start all kinds from to h)
 
 module _ (kinds : List ℕ) (from to i : ℕ) (h : i < to) (shut : getD kinds i 0 ≡ attrRef → ⊥) (w : Left trimStart kinds from to i) where
   pub left-space : getD kinds i 0 ≡ whitespace → Left trimStart kinds from to (i + 1)

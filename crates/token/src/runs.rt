@@ -15,6 +15,8 @@ use super::kind::ATTR_REF;
 use super::kind::DOUBLE_QUOTE;
 use super::kind::SINGLE_QUOTE;
 use super::kind::WHITESPACE;
+use super::steps::RunTokens;
+use super::steps::next_kept;
 
 // The place of the first kept token, or `to`.
 pub fn first_kept(kinds: &[u8], from: TokenPlace, to: TokenPlace) -> TokenPlace
@@ -22,15 +24,11 @@ pub fn first_kept(kinds: &[u8], from: TokenPlace, to: TokenPlace) -> TokenPlace
     ensures place { λ r. ⌜ ((text pairs : List ℕ) → r .0 ≡ firstPlace (to .0) (kept (lineOf (now (kinds .entry)) text pairs) (from .0) (to .0))) ⌝ }
     ensures part { λ r. ⌜ StartsAt all (now (kinds .entry)) (from .0) (to .0) (r .0) ⌝ }
 {
-    let end = to.0;
-    let mut i = from.0;
-    while i < end {
-        if kinds[i] != ATTR_REF {
-            return TokenPlace(i);
-        }
-        i += 1;
-    }
-    TokenPlace(i)
+    next_kept(RunTokens {
+        kinds,
+        at: from,
+        end: to,
+    })
 }
 
 // The place past the last kept token, or `from`.

@@ -1,3 +1,4 @@
+-- The link entry is `read_line` at 4,096 tokens; demand 3 holds of every reading. Assumes nothing.
 use borrow.Author.Needs.{needs}
 use Prim.Native.Nat.{ℕ, zero, suc, _+_, _*_, _-_, _≤_, _<_}
 use native.Mathlib.Omega.{arith}

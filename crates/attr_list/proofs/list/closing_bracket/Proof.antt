@@ -1,3 +1,5 @@
+-- `closing_bracket` gives the entry's closing bracket: the last attribute begins after the last comma in the slice, which is the last dividing one.
+-- Assumes nothing.
 use borrow.Author.Needs.{needs}
 use Prim.Native.Nat.{ℕ, zero, suc, _+_, _*_, _-_, _≤_, _<_}
 use native.Mathlib.Omega.{arith}

@@ -1,3 +1,5 @@
+-- `list_rows` writes the rows of the attributes, first to last. The loop keeps that the rows written and the rows of the attributes left make the
+-- list's rows, and that there are no more of them than tokens passed. Assumes nothing.
 use borrow.Author.Needs.{needs}
 use Prim.Native.Nat.{ℕ, zero, suc, _+_, _*_, _-_, _≤_, _<_}
 use native.Mathlib.Omega.{arith}

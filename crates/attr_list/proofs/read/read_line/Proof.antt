@@ -1,3 +1,4 @@
+-- `read_line` answers and leaves the buffer as the definition says: 1 to 7, an empty list, then the entry's own reading. Assumes nothing.
 use borrow.Author.Needs.{needs}
 use Prim.Native.Nat.{ℕ, zero, suc, _+_, _*_, _-_, _≤_, _<_}
 use native.Mathlib.Omega.{arith}

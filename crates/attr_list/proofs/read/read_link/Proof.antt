@@ -1,3 +1,4 @@
+-- `read_link` reads as the look says. Assumes nothing.
 use borrow.Author.Needs.{needs}
 use Prim.Native.Nat.{ℕ, zero, suc, _+_, _*_, _-_, _≤_, _<_}
 use native.Mathlib.Omega.{arith}

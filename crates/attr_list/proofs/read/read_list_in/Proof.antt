@@ -1,3 +1,5 @@
+-- `read_list_in` reads the attributes between the dividing commas up to the closing bracket, or refuses with 8 before anything is written. Assumes
+-- nothing.
 use borrow.Author.Needs.{needs}
 use Prim.Native.Nat.{ℕ, zero, suc, _+_, _*_, _-_, _≤_, _<_}
 use native.Mathlib.Omega.{arith}

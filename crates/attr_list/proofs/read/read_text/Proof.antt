@@ -1,3 +1,4 @@
+-- `read_text` writes the one row of a link's text, or refuses with 8 before it. Assumes nothing.
 use borrow.Author.Needs.{needs}
 use Prim.Native.Nat.{ℕ, zero, suc, _+_, _*_, _-_, _≤_, _<_}
 use native.Mathlib.Omega.{arith}

@@ -1,3 +1,4 @@
+-- `turned_away` gives the first of 1 to 7 that applies. Assumes nothing.
 use borrow.Author.Needs.{needs}
 use Prim.Native.Nat.{ℕ, zero, suc, _+_, _*_, _-_, _≤_, _<_}
 use native.Mathlib.Omega.{arith}

@@ -1,4 +1,5 @@
 // What C and Rust link. Each function restates, in its own numbers, the contract of what it calls.
+mod lists;
 mod subs;
 
 use token::BlockLine;
@@ -11,6 +12,14 @@ ghost use Rattle.token.specs.Block.{blockLine, refusalOf, yesOf};
 pub struct TelfjostBool {
     pub refusal: usize,
     pub yes: usize,
+}
+
+// A refusal, 0 for none, how many rows are written and how many tokens are consumed; the last two are 0 where the call is refused.
+#[repr(C)]
+pub struct TelfjostList {
+    pub refusal: usize,
+    pub rows: usize,
+    pub consumed: usize,
 }
 
 #[no_mangle]

@@ -209,7 +209,7 @@ impl Bench {
             return None;
         }
         let tokens = line.kinds.len();
-        let many = (2048 / tokens).max(1);
+        let many = (2048 / tokens).max(64);
         self.bump.reset();
         let theirs_line = rust_side::line_of(line.lent(), &self.bump);
         let library = &self.library;

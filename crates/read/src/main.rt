@@ -1,4 +1,5 @@
 // Reads lines of tokens (docs/FORMAT.md) from the file that its argument names, and prints what the reader says of each.
+mod list;
 mod scan;
 mod show;
 mod tokens;
@@ -58,7 +59,7 @@ fn tell<'a>(entry: usize, kinds: &'a [u8], text: &'a [u8], pairs: &'a [u32]) {
         tell_block_line(kinds, text, pairs);
         return;
     }
-    words(b"  this entry is not built yet\n");
+    list::tell_list(entry, kinds, text, pairs, &shown);
 }
 
 // The same for the front of each array.

@@ -36,6 +36,11 @@ pub fn soften(text: &[u8], shown: &mut [u8]) {
     }
 }
 
+// Writes the first so many bytes of a text.
+pub fn write_front(text: &[u8], n: usize) {
+    write_part(text, 0, n);
+}
+
 fn soft_byte(b: u8) {
     let one = [soft(b)];
     io::write_all(1, &one);
@@ -114,11 +119,11 @@ fn sign(marks: &[u8], at: usize, next: usize) -> u8 {
     inside(marked_before(marks, at), marked(marks, next))
 }
 
-// Draws the signs under a text, one for each character, to the front of `drawn`, and answers how many.
-pub fn draw<'a>(text: &'a [u8], marks: &'a [u8], drawn: &mut [u8]) -> usize {
+// Draws the signs under a text up to byte `to`, one for each character, to the front of `drawn`, and answers how many.
+pub fn draw<'a>(text: &'a [u8], marks: &'a [u8], to: usize, drawn: &mut [u8]) -> usize {
     let mut at: usize = 0;
     let mut columns: usize = 0;
-    while at < text.len() {
+    while at < to {
         let next = next_character(text, at);
         put(drawn, columns, sign(marks, at, next));
         columns = up(columns, 65536);
@@ -139,7 +144,7 @@ pub fn offset(pairs: &[u32], place: usize) -> usize {
 }
 
 // The byte at which the token at a place ends.
-fn end(pairs: &[u32], place: usize) -> usize {
+pub fn past(pairs: &[u32], place: usize) -> usize {
     if place > 4096 {
         return 0;
     }
@@ -157,7 +162,7 @@ pub fn run<'a>(kinds: &'a [u8], shown: &'a [u8], pairs: &'a [u32], place: usize,
     while i < n {
         let at = onward(place, i, 4096);
         if byte(kinds, at) != token::kind::ATTR_REF {
-            write_part(shown, offset(pairs, at), end(pairs, at));
+            write_part(shown, offset(pairs, at), past(pairs, at));
         }
         i += 1;
     }

@@ -10,10 +10,10 @@ use Rattle.read.proofs.show.draw.Statement.{statement}
 use Rattle.read.proofs.show.draw.Tie as tie
 
 abbrev Inv-loop : tie.InvT-loop
-Inv-loop text marks drawn₀ at₀ columns₀ drawn at columns = length drawn ≡ length drawn₀
+Inv-loop text marks to drawn₀ at₀ columns₀ drawn at columns = length drawn ≡ length drawn₀
 
 abbrev μ-loop : tie.MeasureT-loop
-μ-loop text marks drawn₀ at₀ columns₀ drawn at columns = length text - at
+μ-loop text marks to drawn₀ at₀ columns₀ drawn at columns = to - at
 
 loop-holds : tie.Need-loop-holds Inv-loop μ-loop
 loop-holds c = search needs

@@ -31,8 +31,8 @@ byte-requires c κs = search needs
 offset-requires : tie.Need-offset-requires Inv-loop μ-loop
 offset-requires c κs = search needs
 
-end-requires : tie.Need-end-requires Inv-loop μ-loop
-end-requires c κs = search needs
+past-requires : tie.Need-past-requires Inv-loop μ-loop
+past-requires c κs = search needs
 
 write-part-requires : tie.Need-write-part-requires Inv-loop μ-loop
 write-part-requires c κs = search needs
@@ -67,7 +67,7 @@ run-spec =
     onward-requires
     byte-requires
     offset-requires
-    end-requires
+    past-requires
     write-part-requires
     add-i
     loop-less

@@ -2,11 +2,13 @@
 // line, as decimal numbers; the answers that the Rust gave to them are in `stdout`. Both files
 // are made by `compare/record`, which says what each number means.
 mod input;
+mod lists;
 mod sets;
 
 use input::bytes;
 use input::number;
 use input::numbers;
+use lists::replay_list;
 use sets::replay_set;
 
 fn write_number(n: usize) {
@@ -74,6 +76,9 @@ fn replay_line(recorded: &[u8], entry: u64, start: usize) -> usize {
 }
 
 fn replay_call(recorded: &[u8], entry: u64, start: usize) -> usize {
+    if entry < 5 {
+        return replay_list(recorded, entry, start);
+    }
     if entry < 6 {
         return replay_line(recorded, entry, start);
     }

@@ -32,7 +32,7 @@ use Rattle.closing.specs.LinkLaws.{Within, link-within}
 use Rattle.attr_list.specs.declared.Entry.{Entry}
 use Rattle.attr_list.specs.declared.Answer.{Answer}
 use Rattle.attr_list.specs.declared.Answer.the-variants.{Refused, Read}
-use Rattle.attr_list.specs.Reading.{Reading, refused, gives, answer, buffer, rowsFrom, listRows, closing, listTo, textTo, readBy, unlessClosed, turnedAway, unlessTurnedAway, reading}
+use Rattle.attr_list.specs.Reading.{Reading, refused, gives, answer, buffer, rowsFrom, listRows, closing, listTo, textTo, linkTo, readBy, unlessClosed, turnedAway, unlessTurnedAway, reading}
 use Rattle.attr_list.specs.ReadAsList.{WhenReadAsList}
 use Rattle.attr_list.specs.Laws.{IsBracket, Bracket, closing-is, bracket-some}
 use Rattle.attr_list.specs.ReadAsListLaws.{Taken, taken, taken-some, read-as-list}
@@ -97,6 +97,12 @@ module _ (most : ℕ) (l : Line) (room : ℕ) where
         ap (λ (b : Bool). cond b (gives [] 1) (readBy entry l)) (sym (ne-eqb (kindAt (l .kinds) 0) closeBracket e))
         ∙ ap (λ (x : ℕ). unlessTurnedAway x (unlessClosed (l .kinds) (readBy entry l))) z
 
+-- what an entry's own reading gives is what the entry gives
+pub read-gives : (most : ℕ) (l : Line) (entry known : Entry) (given : List ℕ) → entry ≡ known → 0 ≡ turnedAway most l (length given) → (kindAt (l .kinds) 0 ≡ closeBracket → ⊥) → (a : Answer) (left : List ℕ) → a ≡ answer (readBy known l) → left ≡ buffer given (readBy known l) → Gives given (reading most entry l (length given)) a left
+read-gives most l entry known given told z h a left f g =
+    gives-as given (readBy known l) (reading most entry l (length given)) a left (record { answers = f; leaves = g })
+    (ap (λ (x : Entry). readBy x l) (sym told) ∙ read-open most l (length given) entry z h)
+
 -- ---- a list
 
 module _ (kinds text pairs : List ℕ) (full : Bool) (c : Closing) (is : c ≡ closing full kinds) where
@@ -120,7 +126,14 @@ module _ (kinds text pairs : List ℕ) (full : Bool) (c : Closing) (is : c ≡ c
         (record { answers = ap (λ (m : ℕ). Read m (end .0 + 1)) (count ∙ ap length rows); leaves = fills ∙ ap (withRows given 0) rows })
         (ap (listTo (lineOf kinds text pairs) block) (sym e ∙ is))
 
--- ---- a link's text
+-- ---- a link
+
+-- what the brackets hold is read so
+pub link-gives : (l : Line) (m known : LinkMacro) (given : List ℕ) → m ≡ linkMacro (l .kinds) (l .pairs) → m ≡ known → (a : Answer) (left : List ℕ) → a ≡ answer (linkTo l known) → left ≡ buffer given (linkTo l known) → Gives given (linkTo l (linkMacro (l .kinds) (l .pairs))) a left
+link-gives l m known given is told a left f g =
+    gives-as given (linkTo l known) (linkTo l (linkMacro (l .kinds) (l .pairs))) a left (record { answers = f; leaves = g }) (ap (linkTo l) (sym told ∙ is))
+
+-- its text
 
 pub text-among : (kinds pairs : List ℕ) (m : LinkMacro) → m ≡ linkMacro kinds pairs → 0 < length kinds → (end : TokenPlace) → m ≡ AsText end → end .0 < length kinds
 text-among kinds pairs m is some end e =

@@ -13,6 +13,7 @@ use row::put_row;
 use row::tag::POSITIONAL;
 use token::TokenPlace;
 use token::kind::CLOSE_BRACKET;
+use token::line::MOST_TOKENS;
 use token::line::line_refusal;
 use token::runs::unquote;
 ghost use mathlib.Core.Path.{_≡_};
@@ -94,10 +95,10 @@ fn read_list<'a, 'b>(
     ensures buffer { λ _. ⌜ now (rows .exit) ≡ buffer (now (rows .entry)) (listTo (lineOf (now (kinds .entry)) (now (text .entry)) (now (pairs .entry))) block (closing full (now (kinds .entry)))) ⌝ }
 {
     if kinds.len() <= SHORT {
-        let mut few = [0u16; 64];
+        let mut few = [0u16; SHORT];
         return read_list_in(kinds, text, pairs, &mut few, rows, full, block);
     }
-    let mut commas = [0u16; 4096];
+    let mut commas = [0u16; MOST_TOKENS];
     read_list_in(kinds, text, pairs, &mut commas, rows, full, block)
 }
 

@@ -10,6 +10,8 @@ use mathlib.Core.List.{List, [], _∷_, _++_}
 use lib.Dec.{eqb}
 use lib.ListN.{length, getD, take, drop, set, length-set}
 use borrow.Author.Tests.{eq-eqb, ne-eqb, lt-ltb, le-ltb, le-leb, lt-leb}
+use Rattle.attr_list.proofs.Readings.{read-gives}
+use Rattle.attr_list.specs.declared.Entry.the-variants.{Block, BlockMacro, Inline, Link}
 use Rattle.attr_list.proofs.Readings.{gives-as, gives-refused, gives-none, read-away, read-closed, read-open, read-some, read-lent, read-room}
 use Rattle.attr_list.specs.Reading.{answer, buffer, readBy}
 use Rattle.token.specs.Line.{lineOf}
@@ -75,7 +77,7 @@ same-length c = search needs
 
 -- src/read.rt:137:1
 returns-3 : tie.Need-returns-3
-returns-3 c = (let e = ap (λ x. readBy x (lineOf (c .before .before .before .before .before .before .before .before .before .before .before .before .before .before .args .kinds .now) (c .before .before .before .before .before .before .before .before .before .before .before .before .before .before .args .text .now) (c .before .before .before .before .before .before .before .before .before .before .before .before .before .before .args .pairs .now))) (sym (c .before .before .before .before .enum-told .given .1)) ∙ read-open (c .before .before .before .before .before .before .before .before .before .before .before .before .before .before .args .most) (lineOf (c .before .before .before .before .before .before .before .before .before .before .before .before .before .before .args .kinds .now) (c .before .before .before .before .before .before .before .before .before .before .before .before .before .before .args .text .now) (c .before .before .before .before .before .before .before .before .before .before .before .before .before .before .args .pairs .now)) (length (c .before .before .before .before .before .before .before .before .before .before .before .before .before .before .args .rows .now)) (c .before .before .before .before .before .before .before .before .before .before .before .before .before .before .args .entry) (sym (c .before .before .before .before .before .before .before .before .if1 .left) ∙ c .before .before .before .before .before .before .before .before .before .turned-away .ensures) (c .before .before .before .before .before .before .if2 .left) in (c .before .before .read-list .ensures .0 ∙ ap answer e, c .before .before .read-list .ensures .1 ∙ ap (buffer (c .before .before .before .before .before .before .before .before .before .before .before .before .before .before .args .rows .now)) e))
+returns-3 c = let w = read-gives (c .before .before .before .before .before .before .before .before .before .before .before .before .before .before .args .most) (lineOf (c .before .before .before .before .before .before .before .before .before .before .before .before .before .before .args .kinds .now) (c .before .before .before .before .before .before .before .before .before .before .before .before .before .before .args .text .now) (c .before .before .before .before .before .before .before .before .before .before .before .before .before .before .args .pairs .now)) (c .before .before .before .before .before .before .before .before .before .before .before .before .before .before .args .entry) Block (c .before .before .before .before .before .before .before .before .before .before .before .before .before .before .args .rows .now) (c .before .before .before .before .enum-told .given .1) (sym (c .before .before .before .before .before .before .before .before .if1 .left) ∙ c .before .before .before .before .before .before .before .before .before .turned-away .ensures) (c .before .before .before .before .before .before .if2 .left) (c .before .before .read-list .result) _ (c .before .before .read-list .ensures .0) (c .before .before .read-list .ensures .1) in (w .answers, w .leaves)
 
 -- src/read.rt:137:1
 same-length-2 : tie.Need-same-length-2
@@ -83,7 +85,7 @@ same-length-2 c = search needs
 
 -- src/read.rt:137:1
 returns-4 : tie.Need-returns-4
-returns-4 c = (let e = ap (λ x. readBy x (lineOf (c .before .before .before .before .before .before .before .before .before .before .before .before .before .before .args .kinds .now) (c .before .before .before .before .before .before .before .before .before .before .before .before .before .before .args .text .now) (c .before .before .before .before .before .before .before .before .before .before .before .before .before .before .args .pairs .now))) (sym (c .before .before .before .before .enum-told2 .given .1)) ∙ read-open (c .before .before .before .before .before .before .before .before .before .before .before .before .before .before .args .most) (lineOf (c .before .before .before .before .before .before .before .before .before .before .before .before .before .before .args .kinds .now) (c .before .before .before .before .before .before .before .before .before .before .before .before .before .before .args .text .now) (c .before .before .before .before .before .before .before .before .before .before .before .before .before .before .args .pairs .now)) (length (c .before .before .before .before .before .before .before .before .before .before .before .before .before .before .args .rows .now)) (c .before .before .before .before .before .before .before .before .before .before .before .before .before .before .args .entry) (sym (c .before .before .before .before .before .before .before .before .if1 .left) ∙ c .before .before .before .before .before .before .before .before .before .turned-away .ensures) (c .before .before .before .before .before .before .if2 .left) in (c .before .before .read-list2 .ensures .0 ∙ ap answer e, c .before .before .read-list2 .ensures .1 ∙ ap (buffer (c .before .before .before .before .before .before .before .before .before .before .before .before .before .before .args .rows .now)) e))
+returns-4 c = let w = read-gives (c .before .before .before .before .before .before .before .before .before .before .before .before .before .before .args .most) (lineOf (c .before .before .before .before .before .before .before .before .before .before .before .before .before .before .args .kinds .now) (c .before .before .before .before .before .before .before .before .before .before .before .before .before .before .args .text .now) (c .before .before .before .before .before .before .before .before .before .before .before .before .before .before .args .pairs .now)) (c .before .before .before .before .before .before .before .before .before .before .before .before .before .before .args .entry) BlockMacro (c .before .before .before .before .before .before .before .before .before .before .before .before .before .before .args .rows .now) (c .before .before .before .before .enum-told2 .given .1) (sym (c .before .before .before .before .before .before .before .before .if1 .left) ∙ c .before .before .before .before .before .before .before .before .before .turned-away .ensures) (c .before .before .before .before .before .before .if2 .left) (c .before .before .read-list2 .result) _ (c .before .before .read-list2 .ensures .0) (c .before .before .read-list2 .ensures .1) in (w .answers, w .leaves)
 
 -- src/read.rt:137:1
 same-length-3 : tie.Need-same-length-3
@@ -91,7 +93,7 @@ same-length-3 c = search needs
 
 -- src/read.rt:137:1
 returns-5 : tie.Need-returns-5
-returns-5 c = (let e = ap (λ x. readBy x (lineOf (c .before .before .before .before .before .before .before .before .before .before .before .before .before .before .args .kinds .now) (c .before .before .before .before .before .before .before .before .before .before .before .before .before .before .args .text .now) (c .before .before .before .before .before .before .before .before .before .before .before .before .before .before .args .pairs .now))) (sym (c .before .before .before .before .enum-told3 .given .1)) ∙ read-open (c .before .before .before .before .before .before .before .before .before .before .before .before .before .before .args .most) (lineOf (c .before .before .before .before .before .before .before .before .before .before .before .before .before .before .args .kinds .now) (c .before .before .before .before .before .before .before .before .before .before .before .before .before .before .args .text .now) (c .before .before .before .before .before .before .before .before .before .before .before .before .before .before .args .pairs .now)) (length (c .before .before .before .before .before .before .before .before .before .before .before .before .before .before .args .rows .now)) (c .before .before .before .before .before .before .before .before .before .before .before .before .before .before .args .entry) (sym (c .before .before .before .before .before .before .before .before .if1 .left) ∙ c .before .before .before .before .before .before .before .before .before .turned-away .ensures) (c .before .before .before .before .before .before .if2 .left) in (c .before .before .read-list3 .ensures .0 ∙ ap answer e, c .before .before .read-list3 .ensures .1 ∙ ap (buffer (c .before .before .before .before .before .before .before .before .before .before .before .before .before .before .args .rows .now)) e))
+returns-5 c = let w = read-gives (c .before .before .before .before .before .before .before .before .before .before .before .before .before .before .args .most) (lineOf (c .before .before .before .before .before .before .before .before .before .before .before .before .before .before .args .kinds .now) (c .before .before .before .before .before .before .before .before .before .before .before .before .before .before .args .text .now) (c .before .before .before .before .before .before .before .before .before .before .before .before .before .before .args .pairs .now)) (c .before .before .before .before .before .before .before .before .before .before .before .before .before .before .args .entry) Inline (c .before .before .before .before .before .before .before .before .before .before .before .before .before .before .args .rows .now) (c .before .before .before .before .enum-told3 .given .1) (sym (c .before .before .before .before .before .before .before .before .if1 .left) ∙ c .before .before .before .before .before .before .before .before .before .turned-away .ensures) (c .before .before .before .before .before .before .if2 .left) (c .before .before .read-list3 .result) _ (c .before .before .read-list3 .ensures .0) (c .before .before .read-list3 .ensures .1) in (w .answers, w .leaves)
 
 -- src/read.rt:137:1
 same-length-4 : tie.Need-same-length-4
@@ -99,7 +101,7 @@ same-length-4 c = search needs
 
 -- src/read.rt:137:1
 returns-6 : tie.Need-returns-6
-returns-6 c = (let e = ap (λ x. readBy x (lineOf (c .before .before .before .before .before .before .before .before .before .before .before .before .before .before .args .kinds .now) (c .before .before .before .before .before .before .before .before .before .before .before .before .before .before .args .text .now) (c .before .before .before .before .before .before .before .before .before .before .before .before .before .before .args .pairs .now))) (sym (c .before .before .before .before .enum-told4 .given .1)) ∙ read-open (c .before .before .before .before .before .before .before .before .before .before .before .before .before .before .args .most) (lineOf (c .before .before .before .before .before .before .before .before .before .before .before .before .before .before .args .kinds .now) (c .before .before .before .before .before .before .before .before .before .before .before .before .before .before .args .text .now) (c .before .before .before .before .before .before .before .before .before .before .before .before .before .before .args .pairs .now)) (length (c .before .before .before .before .before .before .before .before .before .before .before .before .before .before .args .rows .now)) (c .before .before .before .before .before .before .before .before .before .before .before .before .before .before .args .entry) (sym (c .before .before .before .before .before .before .before .before .if1 .left) ∙ c .before .before .before .before .before .before .before .before .before .turned-away .ensures) (c .before .before .before .before .before .before .if2 .left) in (c .before .before .read-link .ensures .0 ∙ ap answer e, c .before .before .read-link .ensures .1 ∙ ap (buffer (c .before .before .before .before .before .before .before .before .before .before .before .before .before .before .args .rows .now)) e))
+returns-6 c = let w = read-gives (c .before .before .before .before .before .before .before .before .before .before .before .before .before .before .args .most) (lineOf (c .before .before .before .before .before .before .before .before .before .before .before .before .before .before .args .kinds .now) (c .before .before .before .before .before .before .before .before .before .before .before .before .before .before .args .text .now) (c .before .before .before .before .before .before .before .before .before .before .before .before .before .before .args .pairs .now)) (c .before .before .before .before .before .before .before .before .before .before .before .before .before .before .args .entry) Link (c .before .before .before .before .before .before .before .before .before .before .before .before .before .before .args .rows .now) (c .before .before .before .before .enum-told4 .given .1) (sym (c .before .before .before .before .before .before .before .before .if1 .left) ∙ c .before .before .before .before .before .before .before .before .before .turned-away .ensures) (c .before .before .before .before .before .before .if2 .left) (c .before .before .read-link .result) _ (c .before .before .read-link .ensures .0) (c .before .before .read-link .ensures .1) in (w .answers, w .leaves)
 
 pub read-line-spec : {M : Type 1} → statement M
 read-line-spec =

@@ -10,6 +10,8 @@ use mathlib.Core.List.{List, [], _∷_, _++_}
 use lib.Dec.{eqb}
 use lib.ListN.{length, getD, take, drop, set, length-set}
 use borrow.Author.Tests.{eq-eqb, ne-eqb, lt-ltb, le-ltb, le-leb, lt-leb}
+use Rattle.attr_list.proofs.Readings.{link-gives}
+use Rattle.closing.specs.declared.LinkMacro.the-variants.{AsList, AsText}
 use Rattle.attr_list.proofs.Readings.{text-among}
 use Rattle.attr_list.specs.Reading.{answer, buffer, linkTo}
 use Rattle.token.specs.Line.{lineOf}
@@ -47,7 +49,7 @@ same-length c = search needs
 
 -- src/read.rt:123:1
 returns : tie.Need-returns
-returns c = (let e = sym (c .before .before .before .before .enum-told .given .1) ∙ c .before .before .before .before .before .before .link-macro .ensures in (c .before .before .read-list .ensures .0 ∙ ap (λ m. answer (linkTo (lineOf (c .before .before .before .before .before .before .before .before .before .before .before .args .kinds .now) (c .before .before .before .before .before .before .before .before .before .before .before .args .text .now) (c .before .before .before .before .before .before .before .before .before .before .before .args .pairs .now)) m)) e, c .before .before .read-list .ensures .1 ∙ ap (λ m. buffer (c .before .before .before .before .before .before .before .before .before .before .before .args .rows .now) (linkTo (lineOf (c .before .before .before .before .before .before .before .before .before .before .before .args .kinds .now) (c .before .before .before .before .before .before .before .before .before .before .before .args .text .now) (c .before .before .before .before .before .before .before .before .before .before .before .args .pairs .now)) m)) e))
+returns c = let w = link-gives (lineOf (c .before .before .before .before .before .before .before .before .before .before .before .args .kinds .now) (c .before .before .before .before .before .before .before .before .before .before .before .args .text .now) (c .before .before .before .before .before .before .before .before .before .before .before .args .pairs .now)) (c .before .before .before .before .before .before .link-macro .result) AsList (c .before .before .before .before .before .before .before .before .before .before .before .args .rows .now) (c .before .before .before .before .before .before .link-macro .ensures) (c .before .before .before .before .enum-told .given .1) (c .before .before .read-list .result) _ (c .before .before .read-list .ensures .0) (c .before .before .read-list .ensures .1) in (w .answers, w .leaves)
 
 -- src/read.rt:123:1
 same-length-2 : tie.Need-same-length-2
@@ -55,7 +57,7 @@ same-length-2 c = search needs
 
 -- src/read.rt:123:1
 returns-2 : tie.Need-returns-2
-returns-2 c = (let e = sym (c .before .before .before .before .before .holds .given .1) ∙ c .before .before .before .before .before .before .before .link-macro .ensures in (c .before .before .read-text .ensures .0 ∙ ap (λ m. answer (linkTo (lineOf (c .before .before .before .before .before .before .before .before .before .before .before .before .args .kinds .now) (c .before .before .before .before .before .before .before .before .before .before .before .before .args .text .now) (c .before .before .before .before .before .before .before .before .before .before .before .before .args .pairs .now)) m)) e, c .before .before .read-text .ensures .1 ∙ ap (λ m. buffer (c .before .before .before .before .before .before .before .before .before .before .before .before .args .rows .now) (linkTo (lineOf (c .before .before .before .before .before .before .before .before .before .before .before .before .args .kinds .now) (c .before .before .before .before .before .before .before .before .before .before .before .before .args .text .now) (c .before .before .before .before .before .before .before .before .before .before .before .before .args .pairs .now)) m)) e))
+returns-2 c = let w = link-gives (lineOf (c .before .before .before .before .before .before .before .before .before .before .before .before .args .kinds .now) (c .before .before .before .before .before .before .before .before .before .before .before .before .args .text .now) (c .before .before .before .before .before .before .before .before .before .before .before .before .args .pairs .now)) (c .before .before .before .before .before .before .before .link-macro .result) (AsText (c .before .before .before .before .before .holds .given .0 .0)) (c .before .before .before .before .before .before .before .before .before .before .before .before .args .rows .now) (c .before .before .before .before .before .before .before .link-macro .ensures) (c .before .before .before .before .before .holds .given .1) (c .before .before .read-text .result) _ (c .before .before .read-text .ensures .0) (c .before .before .read-text .ensures .1) in (w .answers, w .leaves)
 
 pub read-link-spec : {M : Type 1} → statement M
 read-link-spec =

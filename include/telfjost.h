@@ -1,7 +1,8 @@
 /*
  * Telfjost: a proved reader of AsciiDoc attribute lines.
  *
- * Link with target/staticlib/libtelfjost.a (`rt staticlib telfjost`), x86-64 Linux.
+ * Link with target/staticlib/libtelfjost.a (`rt staticlib telfjost`), x86-64 Linux:
+ *     cc -I include program.c target/staticlib/libtelfjost.a
  *
  * Every function returns on every input, allocates nothing, keeps no state between calls and
  * may be called from any number of threads at once. What C must see to:
@@ -26,6 +27,8 @@
  *   4  not two numbers in `pairs` for each kind
  *   5  some kind is over 50
  *   6  a pair starts before the previous one ends, or ends past the text
+ *   7  `rows` holds under 5 numbers for each token
+ *   8  there is no closing bracket, as the entry asks for one
  *   9  the text of a subs attribute is over 65,535 bytes
  *   10 the set is not held
  *   11 sheet mode: the set is held but not sound
@@ -55,6 +58,67 @@ typedef struct {
 telfjost_bool telfjost_is_block_attr_list(const uint8_t *kinds, size_t kinds_len,
                                           const uint8_t *text, size_t text_len,
                                           const uint32_t *pairs, size_t pairs_len);
+
+/* What a list was read as. */
+typedef struct {
+    size_t refusal;  /* 0, or 1 to 8; then the other two are 0 and `rows` was not written to */
+    size_t rows;     /* rows written, five numbers each, from the start of `rows` */
+    size_t consumed; /* tokens consumed, the closing bracket among them */
+} telfjost_list;
+
+/*
+ * The four readings. The line begins after the opening bracket. `rows` must hold five numbers
+ * for each token (refusal 7 otherwise), which is always enough; the numbers behind the rows
+ * written keep what they had, and on a refusal all of them do.
+ *
+ * A row is five numbers: a tag, then two runs. A run is the place of its first token and how
+ * many tokens it has, first kept token to last; AttrRef tokens inside it are skipped by whoever
+ * reads it; an empty run is 0, 0. Unused numbers are 0.
+ *
+ *   tag 1  a positional attribute, empty
+ *   tag 2  a positional attribute: its run
+ *   tag 3  a named attribute: name, value; the value is read under attr_value
+ *   tag 4  the id: its run
+ *   tag 5  a role: its run
+ *   tag 6  an option: its run
+ *   tag 7  a diagnostic: place, number, 0, 0
+ *   tag 8  a named attribute called subs or cols: name, value; the value is read under none
+ *
+ * Rows stand in reading order, repeated names are all there. Diagnostics, with which reading
+ * goes on: 1 Invalid id attribute; 2 Invalid attr list; 3 Invalid empty id attribute (place 0,
+ * the list's own); 4 More than one id attribute.
+ *
+ * A line whose first token is CloseBracket gives no rows, 1 consumed, by every entry.
+ */
+
+/* A block attribute line. Shorthand (.role #id %option) is read. The last token closes; any
+ * other kind there is refusal 8. */
+telfjost_list telfjost_block_attr_list(const uint8_t *kinds, size_t kinds_len,
+                                       const uint8_t *text, size_t text_len,
+                                       const uint32_t *pairs, size_t pairs_len,
+                                       uint32_t *rows, size_t rows_len);
+
+/* The list of a block macro: as above, without shorthand. */
+telfjost_list telfjost_block_macro_attr_list(const uint8_t *kinds, size_t kinds_len,
+                                             const uint8_t *text, size_t text_len,
+                                             const uint32_t *pairs, size_t pairs_len,
+                                             uint32_t *rows, size_t rows_len);
+
+/* The list of an inline macro, without shorthand. The token after the last dividing comma
+ * closes if it is CloseBracket; else (or from the first token, if no comma divides) the next
+ * CloseBracket whose preceding token is not Backslash; none is refusal 8. The line may go on
+ * behind it: see `consumed`. */
+telfjost_list telfjost_inline_macro_attr_list(const uint8_t *kinds, size_t kinds_len,
+                                              const uint8_t *text, size_t text_len,
+                                              const uint32_t *pairs, size_t pairs_len,
+                                              uint32_t *rows, size_t rows_len);
+
+/* What stands in the brackets of a link macro: a list, read as an inline macro's, or text,
+ * which is one row of tag 2, its quotes taken off and its blanks kept. */
+telfjost_list telfjost_link_macro_attr_list(const uint8_t *kinds, size_t kinds_len,
+                                            const uint8_t *text, size_t text_len,
+                                            const uint32_t *pairs, size_t pairs_len,
+                                            uint32_t *rows, size_t rows_len);
 
 /*
  * A substitution set. A place holds a kind, 1 specialchars, 2 quotes, 3 attributes,

@@ -10,17 +10,23 @@
 //! ```
 //! use telfjost::{Kind, Line};
 //!
-//! // [edition=3]
+//! // edition="8, draft"]
 //! let line: Line = [
-//!     (Kind::OpenBracket, "["),
 //!     (Kind::Word, "edition"),
 //!     (Kind::EqualSigns, "="),
-//!     (Kind::Digits, "3"),
+//!     (Kind::DoubleQuote, "\""),
+//!     (Kind::Digits, "8"),
+//!     (Kind::Comma, ","),
+//!     (Kind::Whitespace, " "),
+//!     (Kind::Word, "draft"),
+//!     (Kind::DoubleQuote, "\""),
 //!     (Kind::CloseBracket, "]"),
 //! ]
 //! .into_iter()
 //! .collect();
-//! assert_eq!(line.lent().is_block_attr_list(), Ok(true));
+//! let list = line.lent().block_attr_list()?;
+//! assert_eq!(list.values("edition").next().unwrap(), "8, draft");
+//! # Ok::<(), telfjost::Refusal>(())
 //! ```
 //!
 //! Linking: `build.rs` looks for the library in the folder that `TELFJOST_LIB_DIR` names, else
@@ -29,6 +35,7 @@
 
 mod kind;
 mod line;
+mod list;
 mod refusal;
 mod subs;
 #[allow(missing_docs)]
@@ -36,5 +43,6 @@ mod sys;
 
 pub use kind::Kind;
 pub use line::{Lent, Line, Run, Text};
+pub use list::{Diagnostic, Entry, List, Reader, Row};
 pub use refusal::Refusal;
 pub use subs::{Set, Sub};

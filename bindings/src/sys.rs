@@ -4,7 +4,7 @@
 //! `&mut` slice, so that nothing else that is lent overlaps it; the library keeps no pointer.
 #![allow(unsafe_code)]
 
-use crate::{Lent, Set};
+use crate::{Entry, Lent, Set};
 
 #[repr(C)]
 pub struct Bool {
@@ -63,4 +63,61 @@ pub fn from_meta_sheet(set: Set, subs: Option<&[u8]>) -> SetAnswer {
     let text = subs.unwrap_or_default();
     // SAFETY: see above.
     unsafe { telfjost_from_meta_sheet(set, subs.is_some(), text.as_ptr(), text.len()) }
+}
+
+// ---- lists
+
+#[repr(C)]
+pub struct ListAnswer {
+    pub refusal: usize,
+    pub rows: usize,
+    pub consumed: usize,
+}
+
+macro_rules! lists {
+    ($($name:ident)*) => {
+        #[link(name = "telfjost", kind = "static")]
+        extern "C" {
+            $(fn $name(
+                kinds: *const u8,
+                kinds_len: usize,
+                text: *const u8,
+                text_len: usize,
+                pairs: *const u32,
+                pairs_len: usize,
+                rows: *mut u32,
+                rows_len: usize,
+            ) -> ListAnswer;)*
+        }
+    };
+}
+
+lists! {
+    telfjost_block_attr_list
+    telfjost_block_macro_attr_list
+    telfjost_inline_macro_attr_list
+    telfjost_link_macro_attr_list
+}
+
+pub fn read(entry: Entry, line: Lent<'_>, rows: &mut [u32]) -> ListAnswer {
+    let Lent { kinds, text, pairs } = line;
+    let called = match entry {
+        Entry::Block => telfjost_block_attr_list,
+        Entry::BlockMacro => telfjost_block_macro_attr_list,
+        Entry::InlineMacro => telfjost_inline_macro_attr_list,
+        Entry::LinkMacro => telfjost_link_macro_attr_list,
+    };
+    // SAFETY: see above.
+    unsafe {
+        called(
+            kinds.as_ptr(),
+            kinds.len(),
+            text.as_ptr(),
+            text.len(),
+            pairs.as_ptr(),
+            pairs.len(),
+            rows.as_mut_ptr(),
+            rows.len(),
+        )
+    }
 }

@@ -4,21 +4,20 @@ use native.Mathlib.Omega.{arith}
 use mathlib.Core.Bool.{Bool, true, false, cond, not}
 use mathlib.Core.Path.{_≡_, refl, sym, ap, subst, _∙_}
 use mathlib.Core.List.{List, [], _∷_}
-use lib.Dec.{eqb, leb}
 use lib.ListN.{length, take}
 use lib.Seq.{sets}
 use borrow.Author.Tests.{eq-eqb, ne-eqb}
 use Rattle.token.specs.declared.TokenPlace.{TokenPlace}
 use Rattle.token.specs.declared.Run.{Run}
 use Rattle.token.specs.Kind.{closeBracket}
-use Rattle.token.specs.Line.{Line, lineOf, check, refusal, mostTokens}
+use Rattle.token.specs.Line.{Line, lineOf, refusal, mostTokens}
 use Rattle.token.specs.LineLaws.{Lent, lent}
 use Rattle.token.specs.Run.{kept, unquote, runOf}
 use Rattle.token.specs.Parts.{Part}
 use Rattle.row.specs.declared.Row.{Row}
 use Rattle.row.specs.Row.{width, numbers, allNumbers, oneRun, positional, roomFor, withRows, Fits}
 use Rattle.row.specs.Laws.{wrote-one}
-use Rattle.delimiters.specs.Count.{counted, kindAt}
+use Rattle.delimiters.specs.Count.{kindAt}
 use Rattle.delimiters.specs.Delimit.{dividing, parted}
 use Rattle.delimiters.specs.Divide.{Ascending}
 use Rattle.delimiters.specs.CountLaws.{bracket-past}
@@ -33,9 +32,8 @@ use Rattle.attr_list.specs.declared.Entry.{Entry}
 use Rattle.attr_list.specs.declared.Answer.{Answer}
 use Rattle.attr_list.specs.declared.Answer.the-variants.{Refused, Read}
 use Rattle.attr_list.specs.Reading.{Reading, refused, gives, answer, buffer, rowsFrom, listRows, closing, listTo, textTo, linkTo, readBy, unlessClosed, turnedAway, unlessTurnedAway, reading}
-use Rattle.attr_list.specs.ReadAsList.{WhenReadAsList}
 use Rattle.attr_list.specs.Laws.{IsBracket, Bracket, closing-is, bracket-some}
-use Rattle.attr_list.specs.ReadAsListLaws.{Taken, taken, taken-some, read-as-list}
+use Rattle.attr_list.specs.ReadAsListLaws.{Taken, taken, taken-some}
 
 -- an answer and a buffer are those of a reading
 pub record Gives (given : List ℕ) (r : Reading) (a : Answer) (left : List ℕ) : Type 0 where

@@ -4,7 +4,7 @@ use mathlib.Core.Path.{_≡_, refl}
 use mathlib.Core.List.{List, [], _∷_, _++_, map}
 use lib.ListN.{length}
 use Rattle.token.specs.Kind.{backslash, closeBracket, comma, doubleQuote, dots, equalSigns, hash, percent, singleQuote, word}
-use Rattle.token.specs.Line.{Line, lineOf, mostTokens, tokenAt, tokens, someOver, misplaced, refusal}
+use Rattle.token.specs.Line.{lineOf, mostTokens, tokenAt, tokens, someOver, misplaced, refusal}
 use Rattle.token.specs.Run.{run, without, upTo, onward, lastOf, front, kept, trimStart, leave, trimEnd, trim, quoted, inside, unquote, runOf}
 use Rattle.token.specs.Names.{bytes, sameBytes}
 use Rattle.row.specs.Row.{emptyPositional, positional, named, ident, role, option, diagnostic}

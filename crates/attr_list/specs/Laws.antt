@@ -1,28 +1,26 @@
 -- Laws of the readings: the rows fit the buffer, the closing bracket closes, and the loop over the attributes.
 use Prim.Native.Nat.{ℕ, zero, suc, _+_, _*_, _-_, _≤_, _<_}
 use native.Mathlib.Omega.{arith}
-use native.Mathlib.Numerals.{add-one}
 use mathlib.Core.Bool.{Bool, true, false, cond}
 use mathlib.Core.Path.{_≡_, refl, sym, ap, subst, _∙_}
-use mathlib.Core.List.{List, [], _∷_, _++_, append-nil}
-use lib.Dec.{eqb}
+use mathlib.Core.List.{List, [], _∷_, _++_}
 use lib.ListN.{length, getD, take, drop, length-append, drop-of-length-le}
-use lib.Seq.{drop-cons, sets-eq, take-at, drop-at}
+use lib.Seq.{sets-eq, take-at, drop-at}
 use Rattle.token.specs.Kind.{closeBracket}
-use Rattle.token.specs.Line.{Line, Token, tokenAt, tokens}
+use Rattle.token.specs.Line.{Line, Token, tokens}
 use Rattle.token.specs.Run.{isAttrRef, without, kept}
 use Rattle.row.specs.declared.Row.{Row}
 use Rattle.row.specs.Row.{width, allNumbers, withRows}
 use Rattle.row.specs.Laws.{numbers-length, Writes, writes-start, writes-part, writes-wrote, Wrote}
 use Rattle.delimiters.specs.Count.{counted, kindAt}
-use Rattle.delimiters.specs.Delimit.{Stretch, dividing, parted, attributes}
+use Rattle.delimiters.specs.Delimit.{Stretch, dividing, parted}
 use Rattle.delimiters.specs.Divide.{Ascending, Closes}
-use Rattle.delimiters.specs.CountLaws.{counts, count-some, bracket-past}
+use Rattle.delimiters.specs.CountLaws.{counts, count-some}
 use Rattle.delimiters.specs.CommaLaws.{ascending-end, ascending-next, parted-next}
 use Rattle.delimiters.specs.DivideLaws.{dividing-ascend, dividing-ascend-to, attributes-none, attributes-some}
 use Rattle.closing.specs.declared.Closing.{Closing}
 use Rattle.closing.specs.declared.Closing.the-variants.{At, Nowhere}
-use Rattle.closing.specs.Closing.{at, lastBracket, nextBracket}
+use Rattle.closing.specs.Closing.{lastBracket, nextBracket}
 use Rattle.closing.specs.Laws.{Found, FoundLast, next-found, last-found}
 use Rattle.attribute.specs.Attribute as one
 use Rattle.attribute.specs.Attribute.{attribute}

@@ -1,11 +1,11 @@
 -- Every line that is read as a list is read as specs/ReadAsList.antt says.
-use Prim.Native.Nat.{ℕ, zero, suc, _+_, _*_, _-_, _≤_, _<_}
+use Prim.Native.Nat.{ℕ, zero, suc, _+_, _*_, _≤_, _<_}
 use native.Mathlib.Omega.{arith}
 use native.Mathlib.Decide.{ℕ-discrete}
 use mathlib.Core.Bool.{Bool, true, false, cond, not}
 use mathlib.Core.Path.{_≡_, refl, sym, ap, subst, _∙_}
-use mathlib.Core.List.{List, [], _∷_}
-use lib.Dec.{eqb, leb}
+use mathlib.Core.List.{List, []}
+use lib.Dec.{eqb}
 use lib.ListN.{length}
 use borrow.Author.Tests.{eq-eqb, ne-eqb, eqb-false, leb-true}
 use Rattle.token.specs.Kind.{closeBracket}
@@ -13,9 +13,8 @@ use Rattle.token.specs.Line.{Line, check, refusal}
 use Rattle.row.specs.Row.{width, roomFor, withRows}
 use Rattle.delimiters.specs.Count.{kindAt}
 use Rattle.delimiters.specs.Divide.{Closes}
-use Rattle.delimiters.specs.CountLaws.{counts}
+use Rattle.delimiters.specs.CountLaws.{counts, count-first}
 use Rattle.delimiters.specs.DivideLaws.{divided, attributes-none}
-use Rattle.delimiters.specs.CountLaws.{count-first}
 use Rattle.closing.specs.declared.Closing.{Closing}
 use Rattle.closing.specs.declared.Closing.the-variants.{At, Nowhere}
 use Rattle.closing.specs.declared.LinkMacro.{LinkMacro}
@@ -24,7 +23,7 @@ use Rattle.closing.specs.Link.{linkMacro}
 use Rattle.attr_list.specs.declared.Entry.{Entry}
 use Rattle.attr_list.specs.declared.Entry.the-variants.{Block, BlockMacro, Inline, Link}
 use Rattle.attr_list.specs.Reading.{Reading, refused, gives, answer, buffer, rowsFrom, listRows, closing, listTo, linkTo, readBy, unlessClosed, turnedAway, unlessTurnedAway, reading}
-use Rattle.attr_list.specs.ReadAsList.{ReadAsList, TakenAsList, isBlock, WhenReadAsList}
+use Rattle.attr_list.specs.ReadAsList.{ReadAsList, isBlock, WhenReadAsList}
 use Rattle.attr_list.specs.Laws.{IsBracket, Bracket, closing-is, bracket-closes, list-few, rows-in-front, others-after}
 
 -- ---- a line that 1 to 7 do not refuse has a token, and its buffer has room

@@ -5,7 +5,7 @@ use mathlib.Core.List.{List, [], _∷_, _++_}
 use lib.Dec.{eqb}
 use lib.ListN.{length}
 use Rattle.token.specs.Kind.{closeBracket}
-use Rattle.token.specs.Line.{Line, mostTokens, check, refusal}
+use Rattle.token.specs.Line.{Line, check, refusal}
 use Rattle.token.specs.Run.{kept, unquote, runOf}
 use Rattle.row.specs.declared.Row.{Row}
 use Rattle.row.specs.Row.{positional, withRows, roomFor}

@@ -3,6 +3,7 @@ use crate::input::bytes;
 use crate::input::number;
 use crate::input::numbers;
 use attr_list::Answer;
+ghost use Prim.Native.Nat.{_≤_};
 
 // What each number of the row buffer is before a call.
 const BEFORE: u32 = 4000000000;
@@ -29,19 +30,25 @@ fn write_rows(rows: &[u32], count: usize) {
     }
 }
 
+// 1 for a number that is not what it was before the call.
+fn changed(x: u32) -> usize
+    ensures { λ r. ⌜ r ≤ 1 ⌝ }
+{
+    if x != BEFORE {
+        return 1;
+    }
+    0
+}
+
 // How many numbers of the row buffer, from a place on, are not what they were before the call; and the end of the line.
 fn write_changed(rows: &[u32], from: usize) {
-    let mut n: u64 = 0;
+    let mut n: usize = 0;
     let mut i = from;
     while i < rows.len() {
-        if rows[i] != BEFORE {
-            if n < 4096 {
-                n += 1;
-            }
-        }
+        n += changed(rows[i]);
         i += 1;
     }
-    write_next(n);
+    write_next(n as u64);
     io::write_all(1, b"\n");
 }
 
@@ -69,7 +76,13 @@ fn write_list(answer: Answer, rows: &[u32]) {
     }
 }
 
-fn read_by<'a, 'b>(entry: u64, kinds: &'a [u8], text: &'a [u8], pairs: &'a [u32], rows: &'b mut [u32]) -> Answer {
+fn read_by<'a, 'b>(
+    entry: u64,
+    kinds: &'a [u8],
+    text: &'a [u8],
+    pairs: &'a [u32],
+    rows: &'b mut [u32],
+) -> Answer {
     if entry == 1 {
         return attr_list::parse_block_attr_list(kinds, text, pairs, rows);
     }
@@ -82,7 +95,13 @@ fn read_by<'a, 'b>(entry: u64, kinds: &'a [u8], text: &'a [u8], pairs: &'a [u32]
     attr_list::parse_link_macro_attr_list(kinds, text, pairs, rows)
 }
 
-fn call_list<'a, 'b>(entry: u64, kinds: &'a [u8], text: &'a [u8], pairs: &'a [u32], rows: &'b mut [u32]) {
+fn call_list<'a, 'b>(
+    entry: u64,
+    kinds: &'a [u8],
+    text: &'a [u8],
+    pairs: &'a [u32],
+    rows: &'b mut [u32],
+) {
     let answer = read_by(entry, kinds, text, pairs, rows);
     write_list(answer, rows);
 }

@@ -14,57 +14,62 @@ use Rattle.replay.proofs.lists.write_changed.Tie as tie
 use Rattle.replay.proofs.lists.write_changed.Reads as reads
 use Rattle.replay.proofs.lists.write_changed.Lts as lts
 use Rattle.io.proofs.write_all.Reads as write-all-reads
+use Rattle.replay.proofs.lists.changed.Reads as changed-reads
 use Rattle.replay.proofs.lists.write_next.Reads as write-next-reads
 
 abbrev Inv-loop : tie.InvT-loop
-Inv-loop rows from n₀ i₀ t5 n i = ?
+Inv-loop rows from n₀ i₀ t5 n i = n ≤ i
 
 abbrev μ-loop : tie.MeasureT-loop
-μ-loop rows from n₀ i₀ t5 n i = ?
+μ-loop rows from n₀ i₀ t5 n i = length rows - i
 
--- src/lists.rt:36:5
+-- src/lists.rt:47:5
 loop-holds : tie.Need-loop-holds Inv-loop μ-loop
-loop-holds c = ?
+loop-holds c = omega arith
 
--- src/lists.rt:37:12
-mul-if1 : tie.Need-mul-if1 Inv-loop μ-loop
-mul-if1 c = omega arith
+-- src/lists.rt:48:22
+mul-changed : tie.Need-mul-changed Inv-loop μ-loop
+mul-changed c = omega arith
 
--- src/lists.rt:37:12
-shared-slice-read-if1 : tie.Need-shared-slice-read-if1 Inv-loop μ-loop
-shared-slice-read-if1 c = omega arith
+-- src/lists.rt:48:22
+shared-slice-read-changed : tie.Need-shared-slice-read-changed Inv-loop μ-loop
+shared-slice-read-changed c = omega arith
 
--- src/lists.rt:39:17
+-- src/lists.rt:48:14
+changed-requires : tie.Need-changed-requires Inv-loop μ-loop
+changed-requires c κs = tt
+
+-- src/lists.rt:48:9
 add-n : tie.Need-add-n Inv-loop μ-loop
 add-n c = omega arith
 
--- src/lists.rt:42:9
+-- src/lists.rt:49:9
 add-i : tie.Need-add-i Inv-loop μ-loop
 add-i c = omega arith
 
--- src/lists.rt:36:5
+-- src/lists.rt:47:5
 loop-less : tie.Need-loop-less Inv-loop μ-loop
 loop-less c = omega arith
 
--- src/lists.rt:36:5
+-- src/lists.rt:47:5
 loop-again : tie.Need-loop-again Inv-loop μ-loop
-loop-again c = ?
+loop-again c = omega arith
 
--- src/lists.rt:44:5
+-- src/lists.rt:51:5
 write-next-requires : tie.Need-write-next-requires Inv-loop μ-loop
-write-next-requires c κs = ?
+write-next-requires c κs = tt
 
--- src/lists.rt:45:22
+-- src/lists.rt:52:22
 slice-aggregate-write-all : tie.Need-slice-aggregate-write-all Inv-loop μ-loop
 slice-aggregate-write-all c = omega arith
 
--- src/lists.rt:45:5
+-- src/lists.rt:52:5
 write-all-requires : tie.Need-write-all-requires Inv-loop μ-loop
-write-all-requires c κs = ?
+write-all-requires c κs = tt
 
--- src/lists.rt:33:1
+-- src/lists.rt:44:1
 returns : tie.Need-returns Inv-loop μ-loop
-returns c = ?
+returns c = tt
 
 pub write-changed-spec : {M : Type 1} → statement M
 write-changed-spec =
@@ -73,8 +78,9 @@ write-changed-spec =
     Inv-loop
     μ-loop
     loop-holds
-    mul-if1
-    shared-slice-read-if1
+    mul-changed
+    shared-slice-read-changed
+    changed-requires
     add-n
     add-i
     loop-less

@@ -17,18 +17,18 @@ use Rattle.replay.proofs.lists.wide.Reads as wide-reads
 use Rattle.replay.proofs.lists.write_next.Reads as write-next-reads
 
 abbrev Inv-loop : tie.InvT-loop
-Inv-loop rows count i₀ i = ?
+Inv-loop rows count i₀ i = i ≤ count
 
 abbrev μ-loop : tie.MeasureT-loop
-μ-loop rows count i₀ i = ?
+μ-loop rows count i₀ i = count - i
 
 -- src/lists.rt:23:5
 loop-holds : tie.Need-loop-holds Inv-loop μ-loop
-loop-holds c = ?
+loop-holds c = omega arith
 
 -- src/lists.rt:25:13
 returns : tie.Need-returns Inv-loop μ-loop
-returns c = ?
+returns c = tt
 
 -- src/lists.rt:27:25
 mul-wide : tie.Need-mul-wide Inv-loop μ-loop
@@ -40,11 +40,11 @@ shared-slice-read-wide c = omega arith
 
 -- src/lists.rt:27:20
 wide-requires : tie.Need-wide-requires Inv-loop μ-loop
-wide-requires c κs = ?
+wide-requires c κs = tt
 
 -- src/lists.rt:27:9
 write-next-requires : tie.Need-write-next-requires Inv-loop μ-loop
-write-next-requires c κs = ?
+write-next-requires c κs = tt
 
 -- src/lists.rt:28:9
 add-i : tie.Need-add-i Inv-loop μ-loop
@@ -56,11 +56,11 @@ loop-less c = omega arith
 
 -- src/lists.rt:23:5
 loop-again : tie.Need-loop-again Inv-loop μ-loop
-loop-again c = ?
+loop-again c = omega arith
 
 -- src/lists.rt:21:1
 returns-2 : tie.Need-returns-2 Inv-loop μ-loop
-returns-2 c = ?
+returns-2 c = tt
 
 pub write-rows-spec : {M : Type 1} → statement M
 write-rows-spec =

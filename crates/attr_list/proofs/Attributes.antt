@@ -5,18 +5,44 @@ use mathlib.Core.Bool.{Bool, false}
 use mathlib.Core.Path.{_≡_, refl, sym, ap, subst, _∙_}
 use mathlib.Core.List.{List, [], _∷_}
 use lib.ListN.{length, getD, take}
-use lib.Seq.{getD-take, length-take-le}
+use lib.Seq.{sets, getD-take, length-take-le}
 use Rattle.token.specs.Line.{Line}
-use Rattle.token.specs.Run.{kept}
-use Rattle.row.specs.Row.{width, withRows}
-use Rattle.row.specs.Laws.{Wrote}
+use Rattle.token.specs.Run.{kept, emptyRun, trim, trimStart, trimEnd}
+use Rattle.token.specs.Kept.{kept-none}
+use Rattle.row.specs.declared.Row.{Row}
+use Rattle.row.specs.Row.{width, numbers, oneRun, emptyPositional, withRows}
+use Rattle.row.specs.Laws.{Wrote, wrote-one}
 use Rattle.delimiters.specs.Delimit.{dividing, parted}
 use Rattle.attribute.specs.declared.Written.{Written}
 use Rattle.attribute.specs.Attribute as one
-use Rattle.attribute.specs.Attribute.{attribute}
+use Rattle.attribute.specs.Attribute.{attribute, reading, oneRow}
+use Rattle.attribute.specs.Laws.{again}
 use Rattle.attribute.specs.Parts.{written}
 use Rattle.attr_list.specs.Reading.{rowsFrom, lastBegins}
 use Rattle.attr_list.specs.Laws.{Listing, listing-comma, listing-end, listing-next, listing-last}
+
+-- ---- an attribute of no tokens
+
+pub none-read : (block has : Bool) → attribute block has [] ≡ oneRow has emptyPositional
+unfolding reading trim trimStart trimEnd
+none-read block has = again block has []
+
+-- the row that is written for it, and what is then answered
+module _ (block has : Bool) (l : Line) (from to : ℕ) (e : from ≡ to) (row : Row) (is : row ≡ oneRun 1 emptyRun) (given : List ℕ) (at : ℕ) where
+  none-rows : attribute block has (kept l from to) ≡ oneRow has row
+  none-rows =
+      ap (attribute block has) (kept-none l from to (omega (arith, e)))
+      ∙ none-read block has
+      ∙ ap (oneRow has) (sym is)
+
+  pub none-written : (r : Written) → r .rows ≡ at + 1 → r .id ≡ has → r ≡ written at (attribute block has (kept l from to))
+  none-written r n i = rw none-rows (written-is r n i)
+    where
+      written-is : (r : Written) → r .rows ≡ at + 1 → r .id ≡ has → r ≡ record { rows = at + 1; id = has }
+      written-is r n i = rw (← n, ← i) refl
+
+  pub none-buffer : (left : List ℕ) → left ≡ sets given (width * at) (numbers row) → left ≡ withRows given at (attribute block has (kept l from to) .rows)
+  none-buffer left f = f ∙ wrote-one given at row .buffer ∙ ap (λ (d : one.Read). withRows given at (d .rows)) (sym none-rows)
 
 -- ---- where the last attribute begins
 

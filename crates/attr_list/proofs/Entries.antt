@@ -4,7 +4,7 @@ use mathlib.Core.Path.{_≡_, sym, subst}
 use mathlib.Core.List.{List}
 use lib.ListN.{length}
 use Rattle.token.specs.Line.{Line}
-use Rattle.attr_list.specs.declared.Entry.{Entry}
+use Rattle.attr_list.specs.Entry.{Entry}
 use Rattle.attr_list.specs.declared.Answer.{Answer}
 use Rattle.attr_list.specs.Reading.{answer, buffer, reading}
 use Rattle.attr_list.specs.ReadAsList.{WhenReadAsList}

@@ -28,12 +28,12 @@ use Rattle.closing.specs.declared.LinkMacro.{LinkMacro}
 use Rattle.closing.specs.declared.LinkMacro.the-variants.{AsText}
 use Rattle.closing.specs.Link.{linkMacro}
 use Rattle.closing.specs.LinkLaws.{Within, link-within}
-use Rattle.attr_list.specs.declared.Entry.{Entry}
+use Rattle.attr_list.specs.Entry.{Entry}
 use Rattle.attr_list.specs.declared.Answer.{Answer}
 use Rattle.attr_list.specs.declared.Answer.the-variants.{Refused, Read}
 use Rattle.attr_list.specs.Reading.{Reading, refused, gives, answer, buffer, rowsFrom, listRows, closing, listTo, textTo, linkTo, readBy, unlessClosed, turnedAway, unlessTurnedAway, reading}
 use Rattle.attr_list.specs.Laws.{IsBracket, Bracket, closing-is, bracket-some}
-use Rattle.attr_list.specs.ReadAsListLaws.{Taken, taken, taken-some}
+use Rattle.attr_list.specs.ReadAsListLaws.{Taken, taken}
 
 -- an answer and a buffer are those of a reading
 pub record Gives (given : List ℕ) (r : Reading) (a : Answer) (left : List ℕ) : Type 0 where
@@ -83,23 +83,28 @@ module _ (most : ℕ) (l : Line) (room : ℕ) where
         go zero h e = absurd (h refl)
         go (suc n) h e = ap (λ (x : ℕ). unlessTurnedAway x (unlessClosed (l .kinds) (readBy entry l))) e
 
-    pub read-closed : 0 ≡ turnedAway most l room → kindAt (l .kinds) 0 ≡ closeBracket → gives [] 1 ≡ reading most entry l room
+    pub read-taken : 0 ≡ turnedAway most l room → unlessClosed (l .kinds) (readBy entry l) ≡ reading most entry l room
     unfolding reading
-    read-closed z e =
-        ap (λ (b : Bool). cond b (gives [] 1) (readBy entry l)) (sym (eq-eqb (kindAt (l .kinds) 0) closeBracket e))
-        ∙ ap (λ (x : ℕ). unlessTurnedAway x (unlessClosed (l .kinds) (readBy entry l))) z
+    read-taken z = ap (λ (x : ℕ). unlessTurnedAway x (unlessClosed (l .kinds) (readBy entry l))) z
 
-    pub read-open : 0 ≡ turnedAway most l room → (kindAt (l .kinds) 0 ≡ closeBracket → ⊥) → readBy entry l ≡ reading most entry l room
-    unfolding reading
-    read-open z e =
-        ap (λ (b : Bool). cond b (gives [] 1) (readBy entry l)) (sym (ne-eqb (kindAt (l .kinds) 0) closeBracket e))
-        ∙ ap (λ (x : ℕ). unlessTurnedAway x (unlessClosed (l .kinds) (readBy entry l))) z
+-- what is read of a line that none of them refuses is what the entry gives
+pub read-gives : (most : ℕ) (entry : Entry) (l : Line) (given : List ℕ) → 0 ≡ turnedAway most l (length given) → (a : Answer) (left : List ℕ) → a ≡ answer (unlessClosed (l .kinds) (readBy entry l)) → left ≡ buffer given (unlessClosed (l .kinds) (readBy entry l)) → Gives given (reading most entry l (length given)) a left
+read-gives most entry l given z a left f g =
+    gives-as given (unlessClosed (l .kinds) (readBy entry l)) (reading most entry l (length given)) a left (record { answers = f; leaves = g })
+    (read-taken most l (length given) entry z)
 
--- what an entry's own reading gives is what the entry gives
-pub read-gives : (most : ℕ) (l : Line) (entry known : Entry) (given : List ℕ) → entry ≡ known → 0 ≡ turnedAway most l (length given) → (kindAt (l .kinds) 0 ≡ closeBracket → ⊥) → (a : Answer) (left : List ℕ) → a ≡ answer (readBy known l) → left ≡ buffer given (readBy known l) → Gives given (reading most entry l (length given)) a left
-read-gives most l entry known given told z h a left f g =
-    gives-as given (readBy known l) (reading most entry l (length given)) a left (record { answers = f; leaves = g })
-    (ap (λ (x : Entry). readBy x l) (sym told) ∙ read-open most l (length given) entry z h)
+-- ---- a line whose first token is CloseBracket, and any other
+
+pub closed-gives : (kinds : List ℕ) (r : Reading) (given : List ℕ) → kindAt kinds 0 ≡ closeBracket → (a : Answer) → a ≡ answer (gives [] 1) → Gives given (unlessClosed kinds r) a given
+closed-gives kinds r given e a is =
+    gives-as given (gives [] 1) (unlessClosed kinds r) a given (record { answers = is; leaves = gives-none given 1 .leaves })
+    (ap (λ (b : Bool). cond b (gives [] 1) r) (sym (eq-eqb (kindAt kinds 0) closeBracket e)))
+
+pub open-is : (kinds : List ℕ) (r : Reading) → (kindAt kinds 0 ≡ closeBracket → ⊥) → r ≡ unlessClosed kinds r
+open-is kinds r h = ap (λ (b : Bool). cond b (gives [] 1) r) (sym (ne-eqb (kindAt kinds 0) closeBracket h))
+
+pub open-gives : (kinds : List ℕ) (r : Reading) (given : List ℕ) → (kindAt kinds 0 ≡ closeBracket → ⊥) → (a : Answer) (left : List ℕ) → a ≡ answer r → left ≡ buffer given r → Gives given (unlessClosed kinds r) a left
+open-gives kinds r given h a left f g = gives-as given r (unlessClosed kinds r) a left (record { answers = f; leaves = g }) (open-is kinds r h)
 
 -- ---- a list
 
@@ -127,9 +132,11 @@ module _ (kinds text pairs : List ℕ) (full : Bool) (c : Closing) (is : c ≡ c
 -- ---- a link
 
 -- what the brackets hold is read so
-pub link-gives : (l : Line) (m known : LinkMacro) (given : List ℕ) → m ≡ linkMacro (l .kinds) (l .pairs) → m ≡ known → (a : Answer) (left : List ℕ) → a ≡ answer (linkTo l known) → left ≡ buffer given (linkTo l known) → Gives given (linkTo l (linkMacro (l .kinds) (l .pairs))) a left
+pub link-gives : (l : Line) (m known : LinkMacro) (given : List ℕ) → m ≡ linkMacro (l .kinds) (l .pairs) → m ≡ known → (a : Answer) (left : List ℕ) → a ≡ answer (unlessClosed (l .kinds) (linkTo l known)) → left ≡ buffer given (unlessClosed (l .kinds) (linkTo l known)) → Gives given (unlessClosed (l .kinds) (linkTo l (linkMacro (l .kinds) (l .pairs)))) a left
 link-gives l m known given is told a left f g =
-    gives-as given (linkTo l known) (linkTo l (linkMacro (l .kinds) (l .pairs))) a left (record { answers = f; leaves = g }) (ap (linkTo l) (sym told ∙ is))
+    gives-as given (unlessClosed (l .kinds) (linkTo l known)) (unlessClosed (l .kinds) (linkTo l (linkMacro (l .kinds) (l .pairs)))) a left
+    (record { answers = f; leaves = g })
+    (ap (λ (x : LinkMacro). unlessClosed (l .kinds) (linkTo l x)) (sym told ∙ is))
 
 -- its text
 
@@ -162,9 +169,6 @@ module _ (kinds text pairs : List ℕ) (end : ℕ) (given : List ℕ) where
 module _ (most : ℕ) (kinds text pairs : List ℕ) (room : ℕ) (few : most ≤ mostTokens) (z : 0 ≡ turnedAway most (lineOf kinds text pairs) room) where
   went : Taken most (lineOf kinds text pairs) room
   went = taken most (lineOf kinds text pairs) room (sym z)
-
-  pub read-some : 0 < length kinds
-  read-some = taken-some most (lineOf kinds text pairs) room went
 
   pub read-lent : Lent kinds text pairs
   read-lent = lent most kinds text pairs few (went .line)

@@ -16,8 +16,7 @@ use Rattle.attr_ir.specs.Look.{symbolSight, sight, look}
 use Rattle.attr_ir.specs.Ir.{nameTokens, value, valueTokens, nameOf, namedIr, keyValueIr, irAs, attrIr}
 use Rattle.attribute.specs.Attribute.{pieces, shorthandRead, laterGroups, groups, groupRows, idRead, cutRead, irRead, attributeIn, attribute}
 use Rattle.attribute.specs.Attribute as one
-use Rattle.attr_list.specs.declared.Entry.{Entry}
-use Rattle.attr_list.specs.declared.Entry.the-variants.{Block, BlockMacro, Inline, Link}
+use Rattle.attr_list.specs.Entry.{Entry, Block, BlockMacro, Inline, Link}
 use Rattle.attr_list.specs.Reading.{Reading, refused, gives, rowsFrom, lastBegins, turnedAway, reading}
 
 -- an entry; a line by the kinds and lexemes of its tokens, which follow one another; how many numbers the row buffer has; what is given

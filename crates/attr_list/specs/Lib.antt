@@ -1,3 +1,4 @@
+pub mod Entry
 pub mod Reading
 pub mod ReadAsList
 pub mod Bench

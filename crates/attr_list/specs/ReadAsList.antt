@@ -14,8 +14,7 @@ use Rattle.delimiters.specs.Pairs.{Inside, Uncrossed}
 use Rattle.delimiters.specs.Divide.{times, held, Ascending, Divides}
 use Rattle.closing.specs.declared.LinkMacro.the-variants.{AsList}
 use Rattle.closing.specs.Link.{linkMacro}
-use Rattle.attr_list.specs.declared.Entry.{Entry}
-use Rattle.attr_list.specs.declared.Entry.the-variants.{Block, BlockMacro, Inline, Link}
+use Rattle.attr_list.specs.Entry.{Entry, Block, BlockMacro, Inline, Link}
 use Rattle.attr_list.specs.declared.Answer.{Answer}
 use Rattle.attr_list.specs.declared.Answer.the-variants.{Refused, Read}
 use Rattle.attr_list.specs.Reading.{listRows}

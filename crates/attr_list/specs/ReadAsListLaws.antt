@@ -20,8 +20,7 @@ use Rattle.closing.specs.declared.Closing.the-variants.{At, Nowhere}
 use Rattle.closing.specs.declared.LinkMacro.{LinkMacro}
 use Rattle.closing.specs.declared.LinkMacro.the-variants.{AsList, AsText}
 use Rattle.closing.specs.Link.{linkMacro}
-use Rattle.attr_list.specs.declared.Entry.{Entry}
-use Rattle.attr_list.specs.declared.Entry.the-variants.{Block, BlockMacro, Inline, Link}
+use Rattle.attr_list.specs.Entry.{Entry, Block, BlockMacro, Inline, Link}
 use Rattle.attr_list.specs.Reading.{Reading, refused, gives, answer, buffer, rowsFrom, listRows, closing, listTo, linkTo, readBy, unlessClosed, turnedAway, unlessTurnedAway, reading}
 use Rattle.attr_list.specs.ReadAsList.{ReadAsList, isBlock, WhenReadAsList}
 use Rattle.attr_list.specs.Laws.{IsBracket, Bracket, closing-is, bracket-closes, list-few, rows-in-front, others-after}

@@ -19,8 +19,7 @@ use Rattle.closing.specs.Closing.{lastBracket, nextBracket}
 use Rattle.closing.specs.Link.{linkMacro}
 use Rattle.attribute.specs.Attribute as one
 use Rattle.attribute.specs.Attribute.{attribute}
-use Rattle.attr_list.specs.declared.Entry.{Entry}
-use Rattle.attr_list.specs.declared.Entry.the-variants.{Block, BlockMacro, Inline, Link}
+use Rattle.attr_list.specs.Entry.{Entry, Block, BlockMacro, Inline, Link}
 use Rattle.attr_list.specs.declared.Answer.{Answer}
 use Rattle.attr_list.specs.declared.Answer.the-variants.{Refused, Read}
 

@@ -1,24 +1,18 @@
 // The four readings of an attribute list: a line of tokens to rows (document 01, "Lists and links"). Answers and buffers are defined in
 // specs/Reading.antt, what holds of every line that is read as a list in specs/ReadAsList.antt.
-use read::read_line;
+use read::read_link;
+use read::read_list;
+use read::turned_away;
 use token::line::MOST_TOKENS;
 ghost use mathlib.Core.Path.{_≡_};
 ghost use lib.ListN.{length};
 ghost use Rattle.token.specs.Line.{lineOf, mostTokens};
-ghost use Rattle.attr_list.specs.declared.Entry.the-variants.{Block, BlockMacro, Inline, Link};
+ghost use Rattle.attr_list.specs.Entry.{Block, BlockMacro, Inline, Link};
 ghost use Rattle.attr_list.specs.Reading.{answer, buffer, reading};
 ghost use Rattle.attr_list.specs.ReadAsList.{WhenReadAsList};
 
 mod list;
 mod read;
-
-// Which of the four entries reads.
-pub enum Entry {
-    Block,
-    BlockMacro,
-    Inline,
-    Link,
-}
 
 // What an entry answers: the number with which a call is refused, or how many rows are written and how many tokens are consumed.
 pub enum Answer {
@@ -37,7 +31,11 @@ pub fn parse_block_attr_list<'a, 'b>(
     ensures buffer { λ _. ⌜ now (rows .exit) ≡ buffer (now (rows .entry)) (reading mostTokens Block (lineOf (now (kinds .entry)) (now (text .entry)) (now (pairs .entry))) (length (now (rows .entry)))) ⌝ }
     ensures list { λ r. ⌜ WhenReadAsList Block (lineOf (now (kinds .entry)) (now (text .entry)) (now (pairs .entry))) (now (rows .entry)) r (now (rows .exit)) ⌝ }
 {
-    read_line(kinds, text, pairs, rows, MOST_TOKENS, Entry::Block)
+    let refused = turned_away(kinds, text, pairs, rows.len(), MOST_TOKENS);
+    if refused != 0 {
+        return Answer::Refused(refused);
+    }
+    read_list(kinds, text, pairs, rows, true, true)
 }
 
 // The attribute list of a block macro, which is the rest of its line; without shorthand.
@@ -51,7 +49,11 @@ pub fn parse_block_macro_attr_list<'a, 'b>(
     ensures buffer { λ _. ⌜ now (rows .exit) ≡ buffer (now (rows .entry)) (reading mostTokens BlockMacro (lineOf (now (kinds .entry)) (now (text .entry)) (now (pairs .entry))) (length (now (rows .entry)))) ⌝ }
     ensures list { λ r. ⌜ WhenReadAsList BlockMacro (lineOf (now (kinds .entry)) (now (text .entry)) (now (pairs .entry))) (now (rows .entry)) r (now (rows .exit)) ⌝ }
 {
-    read_line(kinds, text, pairs, rows, MOST_TOKENS, Entry::BlockMacro)
+    let refused = turned_away(kinds, text, pairs, rows.len(), MOST_TOKENS);
+    if refused != 0 {
+        return Answer::Refused(refused);
+    }
+    read_list(kinds, text, pairs, rows, true, false)
 }
 
 // The attribute list of an inline macro, which the next bracket closes that is not escaped; without shorthand.
@@ -65,7 +67,11 @@ pub fn parse_inline_macro_attr_list<'a, 'b>(
     ensures buffer { λ _. ⌜ now (rows .exit) ≡ buffer (now (rows .entry)) (reading mostTokens Inline (lineOf (now (kinds .entry)) (now (text .entry)) (now (pairs .entry))) (length (now (rows .entry)))) ⌝ }
     ensures list { λ r. ⌜ WhenReadAsList Inline (lineOf (now (kinds .entry)) (now (text .entry)) (now (pairs .entry))) (now (rows .entry)) r (now (rows .exit)) ⌝ }
 {
-    read_line(kinds, text, pairs, rows, MOST_TOKENS, Entry::Inline)
+    let refused = turned_away(kinds, text, pairs, rows.len(), MOST_TOKENS);
+    if refused != 0 {
+        return Answer::Refused(refused);
+    }
+    read_list(kinds, text, pairs, rows, false, false)
 }
 
 // What a link macro's brackets hold: an attribute list, read as an inline macro's, or text.
@@ -79,5 +85,9 @@ pub fn parse_link_macro_attr_list<'a, 'b>(
     ensures buffer { λ _. ⌜ now (rows .exit) ≡ buffer (now (rows .entry)) (reading mostTokens Link (lineOf (now (kinds .entry)) (now (text .entry)) (now (pairs .entry))) (length (now (rows .entry)))) ⌝ }
     ensures list { λ r. ⌜ WhenReadAsList Link (lineOf (now (kinds .entry)) (now (text .entry)) (now (pairs .entry))) (now (rows .entry)) r (now (rows .exit)) ⌝ }
 {
-    read_line(kinds, text, pairs, rows, MOST_TOKENS, Entry::Link)
+    let refused = turned_away(kinds, text, pairs, rows.len(), MOST_TOKENS);
+    if refused != 0 {
+        return Answer::Refused(refused);
+    }
+    read_link(kinds, text, pairs, rows)
 }

@@ -1,16 +1,24 @@
 // The attributes of a list: where the last ends, and their rows.
+use attribute::Written;
 use attribute::parse_attr;
 use closing::Closing;
 use closing::last_bracket;
 use closing::next_bracket;
+use row::one_run;
+use row::put_row;
+use row::tag::EMPTY_POSITIONAL;
+use token::Run;
 use token::TokenPlace;
 ghost use mathlib.Core.Path.{_≡_};
 ghost use mathlib.Core.Bool.{false};
-ghost use Prim.Native.Nat.{_+_, _*_, _≤_, _<_};
+ghost use Prim.Native.Nat.{_+_, _*_, _-_, _≤_, _<_};
 ghost use lib.ListN.{length, take};
 ghost use Rattle.token.specs.Line.{lineOf};
 ghost use Rattle.token.specs.LineLaws.{Lent};
+ghost use Rattle.token.specs.Run.{kept};
 ghost use Rattle.row.specs.Row.{width, withRows};
+ghost use Rattle.attribute.specs.Attribute.{attribute};
+ghost use Rattle.attribute.specs.Parts.{written};
 ghost use Rattle.delimiters.specs.Delimit.{dividing, parted};
 ghost use Rattle.delimiters.specs.Divide.{Ascending};
 ghost use Rattle.attr_list.specs.Reading.{closing, rowsFrom};
@@ -34,6 +42,38 @@ pub fn closing_bracket<'a>(kinds: &'a [u8], commas: &'a [u16], n: usize, full: b
     }
     let last = wide(commas[n - 1]);
     next_bracket(kinds, TokenPlace(last + 1))
+}
+
+// Writes the rows of the attribute from `from` up to `to`, as `parse_attr` does; one of no tokens is not looked at.
+fn attr_rows<'a, 'b>(
+    kinds: &'a [u8],
+    text: &'a [u8],
+    pairs: &'a [u32],
+    from: TokenPlace,
+    to: TokenPlace,
+    block: bool,
+    has: bool,
+    rows: &'b mut [u32],
+    at: usize,
+) -> Written
+    requires { ⌜ Lent (now kinds) (now text) (now pairs) ⌝ }
+    requires { ⌜ (from .0 ≤ to .0) × (to .0 ≤ length (now kinds)) × (width * (at + (to .0 - from .0) + 1) ≤ length (now rows)) ⌝ }
+    ensures answer { λ r. ⌜ r ≡ written at (attribute block has (kept (lineOf (now (kinds .entry)) (now (text .entry)) (now (pairs .entry))) (from .0) (to .0))) ⌝ }
+    ensures buffer { λ _. ⌜ now (rows .exit) ≡ withRows (now (rows .entry)) at (attribute block has (kept (lineOf (now (kinds .entry)) (now (text .entry)) (now (pairs .entry))) (from .0) (to .0)) .rows) ⌝ }
+    ensures few { λ r. ⌜ r .rows ≤ at + (to .0 - from .0) + 1 ⌝ }
+{
+    if from.0 == to.0 {
+        let none = Run {
+            place: TokenPlace(0),
+            count: 0,
+        };
+        put_row(rows, at, one_run(EMPTY_POSITIONAL, none));
+        return Written {
+            rows: at + 1,
+            id: has,
+        };
+    }
+    parse_attr(kinds, text, pairs, from, to, block, has, rows, at)
 }
 
 // Writes the rows of the attributes that the first `n` of `commas` part, first to last, and answers how many there are. The last attribute goes on to
@@ -60,7 +100,7 @@ pub fn list_rows<'a, 'b>(
     let mut j: usize = 0;
     while j < n {
         let comma = wide(commas[j]);
-        let written = parse_attr(
+        let written = attr_rows(
             kinds,
             text,
             pairs,
@@ -76,7 +116,7 @@ pub fn list_rows<'a, 'b>(
         from = comma + 1;
         j += 1;
     }
-    let last = parse_attr(
+    let last = attr_rows(
         kinds,
         text,
         pairs,

@@ -1,6 +1,5 @@
-// A line read by an entry: the refusals in the table's order, then the rows. Nothing is written before every refusal has been ruled out.
+// What the entries share: the refusals in the table's order, then the rows. Nothing is written before every refusal has been ruled out.
 use super::Answer;
-use super::Entry;
 use super::list::closing_bracket;
 use super::list::list_rows;
 use closing::Closing;
@@ -18,22 +17,23 @@ use token::line::line_refusal;
 use token::runs::unquote;
 ghost use mathlib.Core.Path.{_≡_};
 ghost use mathlib.Core.Bool.{false};
+ghost use mathlib.Core.List.{[]};
 ghost use Prim.Native.Nat.{_+_, _*_, _≤_, _<_};
 ghost use lib.ListN.{length};
 ghost use Rattle.token.specs.Kind.{closeBracket};
-ghost use Rattle.token.specs.Line.{lineOf, mostTokens};
+ghost use Rattle.token.specs.Line.{lineOf};
 ghost use Rattle.token.specs.LineLaws.{Lent};
 ghost use Rattle.row.specs.Row.{width};
 ghost use Rattle.delimiters.specs.Count.{kindAt};
 ghost use Rattle.closing.specs.Link.{linkMacro};
-ghost use Rattle.attr_list.specs.declared.Entry.the-variants.{Link};
-ghost use Rattle.attr_list.specs.Reading.{answer, buffer, closing, listTo, textTo, readBy, turnedAway, reading};
+ghost use Rattle.attr_list.specs.Entry.{Link};
+ghost use Rattle.attr_list.specs.Reading.{gives, answer, buffer, closing, listTo, textTo, readBy, unlessClosed, turnedAway};
 
 // Lines of so many tokens have their commas in a small array, which is cleared sooner than the large one.
 const SHORT: usize = 64;
 
 // The number with which 1 to 7 refuse a line of at most `most` tokens and a row buffer of `room` numbers, 0 where none does.
-fn turned_away<'a>(
+pub fn turned_away<'a>(
     kinds: &'a [u8],
     text: &'a [u8],
     pairs: &'a [u32],
@@ -50,6 +50,16 @@ fn turned_away<'a>(
         return 7;
     }
     0
+}
+
+// What is answered where the first token is CloseBracket: no rows, 1 consumed.
+fn no_rows() -> Answer
+    ensures { λ r. ⌜ r ≡ answer (gives [] 1) ⌝ }
+{
+    Answer::Read {
+        rows: 0,
+        consumed: 1,
+    }
 }
 
 // Reads a list whose commas are put into `commas`.
@@ -80,8 +90,8 @@ fn read_list_in<'a, 'b, 'c>(
     }
 }
 
-// Reads a list.
-fn read_list<'a, 'b>(
+// Reads a list of a line that 1 to 7 do not refuse. `full` says that the list is the rest of a full line, `block` that the entry is the block entry.
+pub fn read_list<'a, 'b>(
     kinds: &'a [u8],
     text: &'a [u8],
     pairs: &'a [u32],
@@ -90,10 +100,13 @@ fn read_list<'a, 'b>(
     block: bool,
 ) -> Answer
     requires { ⌜ Lent (now kinds) (now text) (now pairs) ⌝ }
-    requires { ⌜ (width * length (now kinds) ≤ length (now rows)) × (kindAt (now kinds) 0 ≡ closeBracket → ⊥) ⌝ }
-    ensures answer { λ r. ⌜ r ≡ answer (listTo (lineOf (now (kinds .entry)) (now (text .entry)) (now (pairs .entry))) block (closing full (now (kinds .entry)))) ⌝ }
-    ensures buffer { λ _. ⌜ now (rows .exit) ≡ buffer (now (rows .entry)) (listTo (lineOf (now (kinds .entry)) (now (text .entry)) (now (pairs .entry))) block (closing full (now (kinds .entry)))) ⌝ }
+    requires { ⌜ width * length (now kinds) ≤ length (now rows) ⌝ }
+    ensures answer { λ r. ⌜ r ≡ answer (unlessClosed (now (kinds .entry)) (listTo (lineOf (now (kinds .entry)) (now (text .entry)) (now (pairs .entry))) block (closing full (now (kinds .entry))))) ⌝ }
+    ensures buffer { λ _. ⌜ now (rows .exit) ≡ buffer (now (rows .entry)) (unlessClosed (now (kinds .entry)) (listTo (lineOf (now (kinds .entry)) (now (text .entry)) (now (pairs .entry))) block (closing full (now (kinds .entry))))) ⌝ }
 {
+    if kinds[0] == CLOSE_BRACKET {
+        return no_rows();
+    }
     if kinds.len() <= SHORT {
         let mut few = [0u16; SHORT];
         return read_list_in(kinds, text, pairs, &mut few, rows, full, block);
@@ -130,52 +143,24 @@ fn read_text<'a, 'b>(
     }
 }
 
-// Reads what a link's brackets hold.
-fn read_link<'a, 'b>(
+// Reads what a link's brackets hold, of a line that 1 to 7 do not refuse.
+pub fn read_link<'a, 'b>(
     kinds: &'a [u8],
     text: &'a [u8],
     pairs: &'a [u32],
     rows: &'b mut [u32],
 ) -> Answer
     requires { ⌜ Lent (now kinds) (now text) (now pairs) ⌝ }
-    requires { ⌜ (width * length (now kinds) ≤ length (now rows)) × (kindAt (now kinds) 0 ≡ closeBracket → ⊥) ⌝ }
-    ensures answer { λ r. ⌜ r ≡ answer (readBy Link (lineOf (now (kinds .entry)) (now (text .entry)) (now (pairs .entry)))) ⌝ }
-    ensures buffer { λ _. ⌜ now (rows .exit) ≡ buffer (now (rows .entry)) (readBy Link (lineOf (now (kinds .entry)) (now (text .entry)) (now (pairs .entry)))) ⌝ }
+    requires { ⌜ width * length (now kinds) ≤ length (now rows) ⌝ }
+    ensures answer { λ r. ⌜ r ≡ answer (unlessClosed (now (kinds .entry)) (readBy Link (lineOf (now (kinds .entry)) (now (text .entry)) (now (pairs .entry))))) ⌝ }
+    ensures buffer { λ _. ⌜ now (rows .exit) ≡ buffer (now (rows .entry)) (unlessClosed (now (kinds .entry)) (readBy Link (lineOf (now (kinds .entry)) (now (text .entry)) (now (pairs .entry))))) ⌝ }
 {
+    if kinds[0] == CLOSE_BRACKET {
+        return no_rows();
+    }
     let holds = link_macro(kinds, pairs);
     match holds {
         LinkMacro::AsList => read_list(kinds, text, pairs, rows, false, false),
         LinkMacro::AsText(end) => read_text(kinds, text, pairs, end, rows),
-    }
-}
-
-// Reads a line of at most `most` tokens by an entry.
-pub fn read_line<'a, 'b>(
-    kinds: &'a [u8],
-    text: &'a [u8],
-    pairs: &'a [u32],
-    rows: &'b mut [u32],
-    most: usize,
-    entry: Entry,
-) -> Answer
-    requires { ⌜ most ≤ mostTokens ⌝ }
-    ensures answer { λ r. ⌜ r ≡ answer (reading most entry (lineOf (now (kinds .entry)) (now (text .entry)) (now (pairs .entry))) (length (now (rows .entry)))) ⌝ }
-    ensures buffer { λ _. ⌜ now (rows .exit) ≡ buffer (now (rows .entry)) (reading most entry (lineOf (now (kinds .entry)) (now (text .entry)) (now (pairs .entry))) (length (now (rows .entry)))) ⌝ }
-{
-    let refused = turned_away(kinds, text, pairs, rows.len(), most);
-    if refused != 0 {
-        return Answer::Refused(refused);
-    }
-    if kinds[0] == CLOSE_BRACKET {
-        return Answer::Read {
-            rows: 0,
-            consumed: 1,
-        };
-    }
-    match entry {
-        Entry::Block => read_list(kinds, text, pairs, rows, true, true),
-        Entry::BlockMacro => read_list(kinds, text, pairs, rows, true, false),
-        Entry::Inline => read_list(kinds, text, pairs, rows, false, false),
-        Entry::Link => read_link(kinds, text, pairs, rows),
     }
 }

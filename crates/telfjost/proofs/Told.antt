@@ -3,7 +3,7 @@ use Prim.Native.Nat.{ℕ}
 use mathlib.Core.Path.{_≡_, subst}
 use mathlib.Core.List.{List}
 use Rattle.token.specs.Line.{Line}
-use Rattle.attr_list.specs.declared.Entry.{Entry}
+use Rattle.attr_list.specs.Entry.{Entry}
 use Rattle.attr_list.specs.declared.Answer.{Answer}
 use Rattle.attr_list.specs.ReadAsList.{WhenReadAsList}
 

@@ -4,7 +4,7 @@ use attr_list::Answer;
 ghost use mathlib.Core.Path.{_≡_};
 ghost use lib.ListN.{length};
 ghost use Rattle.token.specs.Line.{lineOf, mostTokens};
-ghost use Rattle.attr_list.specs.declared.Entry.the-variants.{Block, BlockMacro, Inline, Link};
+ghost use Rattle.attr_list.specs.Entry.{Block, BlockMacro, Inline, Link};
 ghost use Rattle.attr_list.specs.Reading.{reading, answer, buffer, refusalOf, rowsOf, consumedOf};
 ghost use Rattle.attr_list.specs.ReadAsList.{WhenReadAsList};
 

@@ -19,7 +19,7 @@ use Rattle.attr_list.proofs.list.list_rows.Tie as tie
 use Rattle.attr_list.proofs.list.list_rows.Reads as reads
 use Rattle.attr_list.proofs.list.list_rows.Lts as lts
 use Rattle.attr_list.proofs.list.wide.Reads as wide-reads
-use Rattle.attribute.proofs.parse_attr.Reads as parse-attr-reads
+use Rattle.attr_list.proofs.list.attr_rows.Reads as attr-rows-reads
 
 abbrev Inv-loop : tie.InvT-loop
 Inv-loop kinds text pairs commas n end block rows₀ from₀ at₀ id₀ j₀ rows from at id j = Listing (lineOf kinds text pairs) (take n commas) (end .0) block rows₀ rows from at id j
@@ -44,8 +44,8 @@ wide-requires : tie.Need-wide-requires Inv-loop μ-loop
 wide-requires c κs = search needs
 
 -- src/list.rt:63:13
-parse-attr-requires : tie.Need-parse-attr-requires Inv-loop μ-loop
-parse-attr-requires c κs = (c .before .before .before .before .before .before .before .before .before .before .pre .0, comma-room (lineOf (c .before .before .before .before .before .before .before .before .before .before .args .kinds .now) (c .before .before .before .before .before .before .before .before .before .before .args .text .now) (c .before .before .before .before .before .before .before .before .before .before .args .pairs .now)) (c .before .before .before .before .before .before .before .before .before .before .args .commas .now) (c .before .before .before .before .before .before .before .before .before .before .args .n) (c .before .before .before .before .before .before .before .before .before .before .args .end .0) (c .before .before .before .before .before .before .before .before .before .before .args .block) (c .before .before .before .before .before .before .before .before .before .before .args .rows .now) (c .before .before .before .before .before .before .before .before .before .before .pre .1 .0 .0) (c .before .before .before .before .loop .rows) (c .before .before .before .before .loop .from) (c .before .before .before .before .loop .at) (c .before .before .before .before .loop .id) (c .before .before .before .before .loop .j) (c .before .before .before .before .loop .inv) (length (c .before .before .before .before .before .before .before .before .before .before .args .kinds .now)) (c .before .before .before .before .before .before .before .before .before .before .pre .1 .0 .1) (c .before .before .before .before .before .before .before .before .before .before .pre .1 .0 .2) (c .before .wide .result) (c .before .before .before .loop-test .taken) (c .before .wide .ensures))
+attr-rows-requires : tie.Need-attr-rows-requires Inv-loop μ-loop
+attr-rows-requires c κs = (c .before .before .before .before .before .before .before .before .before .before .pre .0, comma-room (lineOf (c .before .before .before .before .before .before .before .before .before .before .args .kinds .now) (c .before .before .before .before .before .before .before .before .before .before .args .text .now) (c .before .before .before .before .before .before .before .before .before .before .args .pairs .now)) (c .before .before .before .before .before .before .before .before .before .before .args .commas .now) (c .before .before .before .before .before .before .before .before .before .before .args .n) (c .before .before .before .before .before .before .before .before .before .before .args .end .0) (c .before .before .before .before .before .before .before .before .before .before .args .block) (c .before .before .before .before .before .before .before .before .before .before .args .rows .now) (c .before .before .before .before .before .before .before .before .before .before .pre .1 .0 .0) (c .before .before .before .before .loop .rows) (c .before .before .before .before .loop .from) (c .before .before .before .before .loop .at) (c .before .before .before .before .loop .id) (c .before .before .before .before .loop .j) (c .before .before .before .before .loop .inv) (length (c .before .before .before .before .before .before .before .before .before .before .args .kinds .now)) (c .before .before .before .before .before .before .before .before .before .before .pre .1 .0 .1) (c .before .before .before .before .before .before .before .before .before .before .pre .1 .0 .2) (c .before .wide .result) (c .before .before .before .loop-test .taken) (c .before .wide .ensures))
 
 -- src/list.rt:66:16
 add-from : tie.Need-add-from Inv-loop μ-loop
@@ -61,19 +61,19 @@ loop-less c = omega arith
 
 -- src/list.rt:61:5
 loop-again : tie.Need-loop-again Inv-loop μ-loop
-loop-again c = next (lineOf (c .before .before .before .before .before .before .before .before .before .before .before .before .before .args .kinds .now) (c .before .before .before .before .before .before .before .before .before .before .before .before .before .args .text .now) (c .before .before .before .before .before .before .before .before .before .before .before .before .before .args .pairs .now)) (c .before .before .before .before .before .before .before .before .before .before .before .before .before .args .commas .now) (c .before .before .before .before .before .before .before .before .before .before .before .before .before .args .n) (c .before .before .before .before .before .before .before .before .before .before .before .before .before .args .end .0) (c .before .before .before .before .before .before .before .before .before .before .before .before .before .args .block) (c .before .before .before .before .before .before .before .before .before .before .before .before .before .args .rows .now) (c .before .before .before .before .before .before .before .before .before .before .before .before .before .pre .1 .0 .0) (c .before .before .before .before .before .before .before .loop .rows) (c .before .before .before .before .before .before .before .loop .from) (c .before .before .before .before .before .before .before .loop .at) (c .before .before .before .before .before .before .before .loop .id) (c .before .before .before .before .before .before .before .loop .j) (c .before .before .before .before .before .before .before .loop .inv) (c .before .before .before .before .wide .result) (c .before .before .before .before .before .before .loop-test .taken) (c .before .before .before .before .wide .ensures) (c .before .before .parse-attr .result) _ (c .before .before .parse-attr .ensures .0) (c .before .before .parse-attr .ensures .1 .0) (c .before .before .parse-attr .ensures .1 .1)
+loop-again c = next (lineOf (c .before .before .before .before .before .before .before .before .before .before .before .before .before .args .kinds .now) (c .before .before .before .before .before .before .before .before .before .before .before .before .before .args .text .now) (c .before .before .before .before .before .before .before .before .before .before .before .before .before .args .pairs .now)) (c .before .before .before .before .before .before .before .before .before .before .before .before .before .args .commas .now) (c .before .before .before .before .before .before .before .before .before .before .before .before .before .args .n) (c .before .before .before .before .before .before .before .before .before .before .before .before .before .args .end .0) (c .before .before .before .before .before .before .before .before .before .before .before .before .before .args .block) (c .before .before .before .before .before .before .before .before .before .before .before .before .before .args .rows .now) (c .before .before .before .before .before .before .before .before .before .before .before .before .before .pre .1 .0 .0) (c .before .before .before .before .before .before .before .loop .rows) (c .before .before .before .before .before .before .before .loop .from) (c .before .before .before .before .before .before .before .loop .at) (c .before .before .before .before .before .before .before .loop .id) (c .before .before .before .before .before .before .before .loop .j) (c .before .before .before .before .before .before .before .loop .inv) (c .before .before .before .before .wide .result) (c .before .before .before .before .before .before .loop-test .taken) (c .before .before .before .before .wide .ensures) (c .before .before .attr-rows .result) _ (c .before .before .attr-rows .ensures .0) (c .before .before .attr-rows .ensures .1 .0) (c .before .before .attr-rows .ensures .1 .1)
 
 -- src/list.rt:69:9
-parse-attr-requires-2 : tie.Need-parse-attr-requires-2 Inv-loop μ-loop
-parse-attr-requires-2 c κs = (c .before .before .before .before .before .before .before .before .pre .0, end-room (lineOf (c .before .before .before .before .before .before .before .before .args .kinds .now) (c .before .before .before .before .before .before .before .before .args .text .now) (c .before .before .before .before .before .before .before .before .args .pairs .now)) (c .before .before .before .before .before .before .before .before .args .commas .now) (c .before .before .before .before .before .before .before .before .args .n) (c .before .before .before .before .before .before .before .before .args .end .0) (c .before .before .before .before .before .before .before .before .args .block) (c .before .before .before .before .before .before .before .before .args .rows .now) (c .before .before .before .before .before .before .before .before .pre .1 .0 .0) (c .before .before .loop .rows) (c .before .before .loop .from) (c .before .before .loop .at) (c .before .before .loop .id) (c .before .before .loop .j) (c .before .before .loop .inv) (length (c .before .before .before .before .before .before .before .before .args .kinds .now)) (c .before .before .before .before .before .before .before .before .pre .1 .0 .1) (c .before .before .before .before .before .before .before .before .pre .1 .0 .2))
+attr-rows-requires-2 : tie.Need-attr-rows-requires-2 Inv-loop μ-loop
+attr-rows-requires-2 c κs = (c .before .before .before .before .before .before .before .before .pre .0, end-room (lineOf (c .before .before .before .before .before .before .before .before .args .kinds .now) (c .before .before .before .before .before .before .before .before .args .text .now) (c .before .before .before .before .before .before .before .before .args .pairs .now)) (c .before .before .before .before .before .before .before .before .args .commas .now) (c .before .before .before .before .before .before .before .before .args .n) (c .before .before .before .before .before .before .before .before .args .end .0) (c .before .before .before .before .before .before .before .before .args .block) (c .before .before .before .before .before .before .before .before .args .rows .now) (c .before .before .before .before .before .before .before .before .pre .1 .0 .0) (c .before .before .loop .rows) (c .before .before .loop .from) (c .before .before .loop .at) (c .before .before .loop .id) (c .before .before .loop .j) (c .before .before .loop .inv) (length (c .before .before .before .before .before .before .before .before .args .kinds .now)) (c .before .before .before .before .before .before .before .before .pre .1 .0 .1) (c .before .before .before .before .before .before .before .before .pre .1 .0 .2))
 
 -- src/list.rt:41:1
 same-length : tie.Need-same-length Inv-loop μ-loop
-same-length c = c .before .before .parse-attr2 .kept .1 .1 .1 .1 .1 .1 .1 .0 ∙ c .before .before .before .before .before .loop .inv .writes .long
+same-length c = c .before .before .attr-rows2 .kept .1 .1 .1 .1 .1 .1 .1 .0 ∙ c .before .before .before .before .before .loop .inv .writes .long
 
 -- src/list.rt:41:1
 returns : tie.Need-returns Inv-loop μ-loop
-returns c = let w = last (lineOf (c .before .before .before .before .before .before .before .before .before .before .before .args .kinds .now) (c .before .before .before .before .before .before .before .before .before .before .before .args .text .now) (c .before .before .before .before .before .before .before .before .before .before .before .args .pairs .now)) (c .before .before .before .before .before .before .before .before .before .before .before .args .commas .now) (c .before .before .before .before .before .before .before .before .before .before .before .args .n) (c .before .before .before .before .before .before .before .before .before .before .before .args .end .0) (c .before .before .before .before .before .before .before .before .before .before .before .args .block) (c .before .before .before .before .before .before .before .before .before .before .before .args .rows .now) (c .before .before .before .before .before .before .before .before .before .before .before .pre .1 .0 .0) (c .before .before .before .before .before .loop .rows) (c .before .before .before .before .before .loop .from) (c .before .before .before .before .before .loop .at) (c .before .before .before .before .before .loop .id) (c .before .before .before .before .before .loop .j) (c .before .before .before .before .before .loop .inv) (c .before .before .before .before .loop-test .left) (c .before .before .parse-attr2 .result) _ (c .before .before .parse-attr2 .ensures .0) (c .before .before .parse-attr2 .ensures .1 .0) in (omega (arith, w .count), w .buffer)
+returns c = let w = last (lineOf (c .before .before .before .before .before .before .before .before .before .before .before .args .kinds .now) (c .before .before .before .before .before .before .before .before .before .before .before .args .text .now) (c .before .before .before .before .before .before .before .before .before .before .before .args .pairs .now)) (c .before .before .before .before .before .before .before .before .before .before .before .args .commas .now) (c .before .before .before .before .before .before .before .before .before .before .before .args .n) (c .before .before .before .before .before .before .before .before .before .before .before .args .end .0) (c .before .before .before .before .before .before .before .before .before .before .before .args .block) (c .before .before .before .before .before .before .before .before .before .before .before .args .rows .now) (c .before .before .before .before .before .before .before .before .before .before .before .pre .1 .0 .0) (c .before .before .before .before .before .loop .rows) (c .before .before .before .before .before .loop .from) (c .before .before .before .before .before .loop .at) (c .before .before .before .before .before .loop .id) (c .before .before .before .before .before .loop .j) (c .before .before .before .before .before .loop .inv) (c .before .before .before .before .loop-test .left) (c .before .before .attr-rows2 .result) _ (c .before .before .attr-rows2 .ensures .0) (c .before .before .attr-rows2 .ensures .1 .0) in (omega (arith, w .count), w .buffer)
 
 pub list-rows-spec : {M : Type 1} → statement M
 list-rows-spec =
@@ -85,11 +85,11 @@ list-rows-spec =
     mul-wide
     shared-slice-read-wide
     wide-requires
-    parse-attr-requires
+    attr-rows-requires
     add-from
     add-j
     loop-less
     loop-again
-    parse-attr-requires-2
+    attr-rows-requires-2
     same-length
     returns)

@@ -12,7 +12,7 @@ use borrow.Author.Tests.{eq-eqb, ne-eqb, lt-ltb, le-ltb, le-leb, lt-leb}
 use Rattle.telfjost.proofs.Told.{same-answer}
 use Rattle.attr_list.specs.ReadAsList.{WhenReadAsList}
 use Rattle.attr_list.specs.Reading.{refusalOf, rowsOf, consumedOf}
-use Rattle.attr_list.specs.declared.Entry.the-variants.{Block}
+use Rattle.attr_list.specs.Entry.{Block}
 use Rattle.attr_list.specs.declared.Answer.{Answer}
 use Rattle.token.specs.Line.{lineOf}
 use Rattle.telfjost.proofs.lists.telfjost_block_attr_list.Statement.{statement}

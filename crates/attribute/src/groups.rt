@@ -1,6 +1,8 @@
 // The groups of options and roles.
+use super::Written;
 use row::one_run;
 use row::put_row;
+use token::Run;
 use token::TokenPlace;
 use token::runs::find_kind;
 use token::runs::trim;
@@ -10,7 +12,7 @@ ghost use Prim.Native.Nat.{ℕ, _+_, _*_, _-_, _≤_, _<_};
 ghost use lib.ListN.{length};
 ghost use Rattle.token.specs.Kind.{attrRef};
 ghost use Rattle.token.specs.Line.{lineOf, mostTokens};
-ghost use Rattle.token.specs.Run.{kept, ofKind, trim};
+ghost use Rattle.token.specs.Run.{kept, inRun, ofKind, trim};
 ghost use Rattle.row.specs.Row.{width, oneRun};
 ghost use Rattle.row.specs.Laws.{Wrote};
 ghost use Rattle.attribute.specs.Attribute.{unlessEmpty, groups, groupRows};
@@ -39,7 +41,7 @@ fn put_group<'a, 'b>(
 }
 
 // Writes a row for each group of the tokens kept from `from` up to `to`, split at a kind.
-pub fn push_attr_groups<'a, 'b>(
+fn push_attr_groups<'a, 'b>(
     kinds: &'a [u8],
     delimiter: u8,
     tag: u32,
@@ -63,5 +65,29 @@ pub fn push_attr_groups<'a, 'b>(
             return n;
         }
         i = end.0 + 1;
+    }
+}
+
+// Writes a row for each group of a run; whether the list has an id is handed on.
+pub fn put_groups<'a, 'b>(
+    kinds: &'a [u8],
+    delimiter: u8,
+    tag: u32,
+    run: Run,
+    id: bool,
+    rows: &'b mut [u32],
+    at: usize,
+) -> Written
+    requires { ⌜ (run .place .0 + run .count ≤ length (now kinds)) × (length (now kinds) ≤ mostTokens) × (delimiter ≡ attrRef → ⊥) ⌝ }
+    requires { ⌜ width * (at + run .count) ≤ length (now rows) ⌝ }
+    ensures wrote { λ r. ⌜ ((text pairs : List ℕ) → Wrote (now (rows .entry)) at (groupRows (oneRun tag) (groups (ofKind delimiter) (inRun (lineOf (now (kinds .entry)) text pairs) run))) (now (rows .exit)) (r .rows)) ⌝ }
+    ensures id { λ r. ⌜ r .id ≡ id ⌝ }
+    ensures few { λ r. ⌜ r .rows ≤ at + run .count ⌝ }
+{
+    let from = run.place;
+    let to = TokenPlace(from.0 + run.count);
+    Written {
+        rows: push_attr_groups(kinds, delimiter, tag, from, to, rows, at),
+        id,
     }
 }

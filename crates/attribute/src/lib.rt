@@ -1,8 +1,7 @@
 // One attribute: its rows.
 use attr_ir::AttrIr;
 use attr_ir::attr_ir;
-use groups::push_attr_groups;
-use row::Row;
+use groups::put_groups;
 use row::one_run;
 use row::put_row;
 use row::tag::EMPTY_POSITIONAL;
@@ -14,6 +13,7 @@ use row::tag::ROLE;
 use shorthand::push_shorthand;
 use single::put_diagnostic;
 use single::put_id;
+use single::put_named;
 use single::put_one;
 use symbols::find_symbol;
 use token::Run;
@@ -70,14 +70,8 @@ pub fn parse_attr<'a, 'b>(
         return put_one(rows, at, one_run(EMPTY_POSITIONAL, trimmed), has);
     }
     let start = trimmed.place;
-    let ir = attr_ir(
-        kinds,
-        text,
-        pairs,
-        start,
-        TokenPlace(start.0 + count),
-        block,
-    );
+    let end = TokenPlace(start.0 + count);
+    let ir = attr_ir(kinds, text, pairs, start, end, block);
     match ir {
         AttrIr::Positional { run, cut } => {
             if cut {
@@ -85,38 +79,10 @@ pub fn parse_attr<'a, 'b>(
             }
             put_one(rows, at, one_run(POSITIONAL, run), has)
         }
-        AttrIr::Named { name, value } => {
-            let row = Row {
-                tag: NAMED,
-                first: name,
-                second: value,
-            };
-            put_one(rows, at, row, has)
-        }
-        AttrIr::Plain { name, value } => {
-            let row = Row {
-                tag: PLAIN,
-                first: name,
-                second: value,
-            };
-            put_one(rows, at, row, has)
-        }
-        AttrIr::Options(run) => {
-            let p = run.place;
-            let end = TokenPlace(p.0 + run.count);
-            Written {
-                rows: push_attr_groups(kinds, COMMA, OPTION, p, end, rows, at),
-                id: has,
-            }
-        }
-        AttrIr::Roles(run) => {
-            let p = run.place;
-            let end = TokenPlace(p.0 + run.count);
-            Written {
-                rows: push_attr_groups(kinds, WHITESPACE, ROLE, p, end, rows, at),
-                id: has,
-            }
-        }
+        AttrIr::Named { name, value } => put_named(rows, at, NAMED, name, value, has),
+        AttrIr::Plain { name, value } => put_named(rows, at, PLAIN, name, value, has),
+        AttrIr::Options(run) => put_groups(kinds, COMMA, OPTION, run, has, rows, at),
+        AttrIr::Roles(run) => put_groups(kinds, WHITESPACE, ROLE, run, has, rows, at),
         AttrIr::Id(run) => put_id(rows, at, run, has),
         AttrIr::Shorthand(run) => {
             let p = run.place;

@@ -13,7 +13,7 @@ ghost use Prim.Native.Nat.{_+_, _*_, _≤_, _<_};
 ghost use lib.ListN.{length};
 ghost use Rattle.token.specs.Line.{Token};
 ghost use Rattle.token.specs.Run.{runOf};
-ghost use Rattle.row.specs.Row.{width, diagnostic, Fits, small};
+ghost use Rattle.row.specs.Row.{width, twoRuns, diagnostic, Fits, small};
 ghost use Rattle.attribute.specs.Attribute.{oneRow, idRead};
 ghost use Rattle.attribute.specs.Parts.{WroteId};
 
@@ -24,6 +24,19 @@ pub fn put_one(rows: &mut [u32], at: usize, row: Row, id: bool) -> Written
 {
     put_row(rows, at, row);
     Written { rows: at + 1, id }
+}
+
+// Writes a row of a name and a value; whether the list has an id is handed on.
+pub fn put_named(rows: &mut [u32], at: usize, tag: u32, name: Run, value: Run, id: bool) -> Written
+    requires { ⌜ (width * at + width ≤ length (now rows)) × Fits (twoRuns tag name value) ⌝ }
+    ensures { λ r. ⌜ WroteId (now (rows .entry)) at (oneRow id (twoRuns tag name value)) (now (rows .exit)) r ⌝ }
+{
+    let row = Row {
+        tag,
+        first: name,
+        second: value,
+    };
+    put_one(rows, at, row, id)
 }
 
 // Writes a diagnostic.

@@ -26,10 +26,11 @@ use Rattle.attribute.proofs.parse_attr.Reads as parse-attr
 use Rattle.attribute.proofs.parse_attr.Kinds as parse-attr-kinds
 use Rattle.attribute.proofs.+cut_positional+parse_attr.Lts-parse_attr as parse-attr-lts
 use Rattle.attr_ir.proofs.attr_ir.Reads as attr-ir-reads
-use Rattle.attribute.proofs.groups.push_attr_groups.Reads as push-attr-groups-reads
+use Rattle.attribute.proofs.groups.put_groups.Reads as put-groups-reads
 use Rattle.attribute.proofs.shorthand.push_shorthand.Reads as push-shorthand-reads
 use Rattle.attribute.proofs.single.put_diagnostic.Reads as put-diagnostic-reads
 use Rattle.attribute.proofs.single.put_id.Reads as put-id-reads
+use Rattle.attribute.proofs.single.put_named.Reads as put-named-reads
 use Rattle.attribute.proofs.single.put_one.Reads as put-one-reads
 use Rattle.attribute.proofs.symbols.find_symbol.Reads as find-symbol-reads
 use Rattle.row.proofs.one_run.Reads as one-run-reads
@@ -69,7 +70,7 @@ abbrev parse-attr-below : ℕ → In 2 parse-attr-kinds.ps
 parse-attr-below t =
     and 2 parse-attr-kinds.ps (falls 2 parse-attr-kinds.ps _<_ μ-parse-attr t) parse-attr.Pre
 
--- src/lib.rt:135:25
+-- src/lib.rt:114:25
 cut-positional-add-parse-attr : (t : ℕ) → cut-positional-lts.Need-add-parse-attr (
   find-symbol-reads.Asked,
   find-symbol-reads.Learnt,
@@ -86,7 +87,7 @@ cut-positional-add-parse-attr : (t : ℕ) → cut-positional-lts.Need-add-parse-
 ) (cut-positional-at t) cut-positional.Post
 cut-positional-add-parse-attr t c = omega (arith, c .before .before .before .before .before .before .before .pre .1 .1 .0 .0, c .before .before .before .before .before .before .before .pre .1 .1 .0 .1, c .before .before .before .before .before .before .before .pre .1 .1 .1 .within, c .before .before .before .before .before .before .before .pre .1 .0 .few)
 
--- src/lib.rt:136:9
+-- src/lib.rt:115:9
 cut-positional-find-symbol-requires : (t : ℕ) → cut-positional-lts.Need-find-symbol-requires (
   find-symbol-reads.Asked,
   find-symbol-reads.Learnt,
@@ -103,7 +104,7 @@ cut-positional-find-symbol-requires : (t : ℕ) → cut-positional-lts.Need-find
 ) (cut-positional-at t) cut-positional.Post
 cut-positional-find-symbol-requires t c κs = (omega arith, omega (arith, c .before .before .before .before .before .before .before .pre .1 .1 .0 .0, c .before .before .before .before .before .before .before .pre .1 .1 .0 .1, c .before .before .before .before .before .before .before .pre .1 .1 .1 .within, c .before .before .before .before .before .before .before .pre .1 .0 .few))
 
--- src/lib.rt:138:9
+-- src/lib.rt:117:9
 cut-positional-put-diagnostic-requires : (t : ℕ) → cut-positional-lts.Need-put-diagnostic-requires (
   find-symbol-reads.Asked,
   find-symbol-reads.Learnt,
@@ -120,7 +121,7 @@ cut-positional-put-diagnostic-requires : (t : ℕ) → cut-positional-lts.Need-p
 ) (cut-positional-at t) cut-positional.Post
 cut-positional-put-diagnostic-requires t c κs = (omega (arith, c .before .before .before .before .before .before .before .before .before .before .before .before .pre .1 .1 .0 .0, c .before .before .before .before .before .before .before .before .before .before .before .before .pre .1 .1 .0 .1, c .before .before .before .before .before .before .before .before .before .before .before .before .pre .1 .1 .1 .within, c .before .before .before .before .before .before .before .before .before .before .before .before .pre .1 .0 .few), omega (arith, c .before .before .before .before .before .before .before .before .before .before .before .before .pre .1 .1 .0 .0, c .before .before .before .before .before .before .before .before .before .before .before .before .pre .1 .1 .0 .1, c .before .before .before .before .before .before .before .before .before .before .before .before .pre .1 .1 .1 .within, c .before .before .before .before .before .before .before .before .before .before .before .before .pre .1 .0 .few, c .before .before .before .before .find-symbol .ensures .high), omega arith)
 
--- src/lib.rt:138:9
+-- src/lib.rt:117:9
 cut-positional-same-length : (t : ℕ) → cut-positional-lts.Need-same-length (
   find-symbol-reads.Asked,
   find-symbol-reads.Learnt,
@@ -137,7 +138,7 @@ cut-positional-same-length : (t : ℕ) → cut-positional-lts.Need-same-length (
 ) (cut-positional-at t) cut-positional.Post
 cut-positional-same-length t c = c .before .before .put-diagnostic .kept .0
 
--- src/lib.rt:138:9
+-- src/lib.rt:117:9
 cut-positional-returns : (t : ℕ) → cut-positional-lts.Need-returns (
   find-symbol-reads.Asked,
   find-symbol-reads.Learnt,
@@ -154,7 +155,7 @@ cut-positional-returns : (t : ℕ) → cut-positional-lts.Need-returns (
 ) (cut-positional-at t) cut-positional.Post
 cut-positional-returns t c = all-told _ _ _ _ _ _ _ (c .before .before .put-diagnostic .ensures) (cut-none (c .before .before .before .before .before .before .before .before .before .before .before .before .before .before .before .args .kinds .now) (c .before .before .before .before .before .before .before .before .before .before .before .before .before .before .before .args .text .now) (c .before .before .before .before .before .before .before .before .before .before .before .before .before .before .before .args .pairs .now) (c .before .before .before .before .before .before .before .before .before .before .before .before .before .before .before .args .run .place .0) (c .before .before .before .before .before .before .before .before .before .before .before .before .before .before .before .args .run .place .0 + c .before .before .before .before .before .before .before .before .before .before .before .before .before .before .before .args .run .count) (c .before .before .before .before .before .before .before .before .before .before .before .before .before .before .before .args .block) (c .before .before .before .before .before .before .before .before .before .before .before .before .before .before .before .args .has) (c .before .before .before .before .before .before .before .find-symbol .result .0) (c .before .before .before .before .before .before .before .find-symbol .ensures) (omega (arith, c .before .before .before .before .before .before .before .before .before .before .before .before .before .before .before .pre .1 .1 .0 .0)) (c .before .before .before .before .before .before .before .before .before .before .before .before .before .before .before .args .rows .now) (c .before .before .before .before .before .before .before .before .before .before .before .before .before .before .before .args .at) (c .before .before .before .before .if1 .taken)) (omega (arith, c .before .before .put-diagnostic .ensures .wrote .count))
 
--- src/lib.rt:143:29
+-- src/lib.rt:119:43
 cut-positional-run-of-requires : (t : ℕ) → cut-positional-lts.Need-run-of-requires (
   find-symbol-reads.Asked,
   find-symbol-reads.Learnt,
@@ -171,7 +172,7 @@ cut-positional-run-of-requires : (t : ℕ) → cut-positional-lts.Need-run-of-re
 ) (cut-positional-at t) cut-positional.Post
 cut-positional-run-of-requires t c κs = (omega arith, omega (arith, c .before .before .before .before .find-symbol .ensures .high, c .before .before .before .before .before .before .before .before .before .before .before .before .pre .1 .1 .1 .within))
 
--- src/lib.rt:143:9
+-- src/lib.rt:119:23
 cut-positional-one-run-requires : (t : ℕ) → cut-positional-lts.Need-one-run-requires (
   find-symbol-reads.Asked,
   find-symbol-reads.Learnt,
@@ -188,7 +189,7 @@ cut-positional-one-run-requires : (t : ℕ) → cut-positional-lts.Need-one-run-
 ) (cut-positional-at t) cut-positional.Post
 cut-positional-one-run-requires t c κs = tt
 
--- src/lib.rt:140:5
+-- src/lib.rt:119:5
 cut-positional-put-row-requires : (t : ℕ) → cut-positional-lts.Need-put-row-requires (
   find-symbol-reads.Asked,
   find-symbol-reads.Learnt,
@@ -205,7 +206,7 @@ cut-positional-put-row-requires : (t : ℕ) → cut-positional-lts.Need-put-row-
 ) (cut-positional-at t) cut-positional.Post
 cut-positional-put-row-requires t c κs = (omega (arith, c .before .before .before .before .before .before .before .before .before .before .before .before .before .before .pre .1 .1 .0 .0, c .before .before .before .before .before .before .before .before .before .before .before .before .before .before .pre .1 .1 .0 .1, c .before .before .before .before .before .before .before .before .before .before .before .before .before .before .pre .1 .1 .1 .within, c .before .before .before .before .before .before .before .before .before .before .before .before .before .before .pre .1 .0 .few), subst (λ (r : Row). Fits r) (sym (c .one-run .ensures)) (record { first-place = omega (arith, c .before .before .before .before .before .before .before .before .before .before .before .before .before .before .pre .1 .1 .0 .0, c .before .before .before .before .before .before .before .before .before .before .before .before .before .before .pre .1 .1 .0 .1, c .before .before .before .before .before .before .before .before .before .before .before .before .before .before .pre .1 .1 .1 .within, c .before .before .before .before .before .before .before .before .before .before .before .before .before .before .pre .1 .0 .few, c .before .run-of .ensures .1 .within, c .before .before .before .before .before .before .find-symbol .ensures .high); first-count = omega (arith, c .before .before .before .before .before .before .before .before .before .before .before .before .before .before .pre .1 .1 .0 .0, c .before .before .before .before .before .before .before .before .before .before .before .before .before .before .pre .1 .1 .0 .1, c .before .before .before .before .before .before .before .before .before .before .before .before .before .before .pre .1 .1 .1 .within, c .before .before .before .before .before .before .before .before .before .before .before .before .before .before .pre .1 .0 .few, c .before .run-of .ensures .1 .within, c .before .before .before .before .before .before .find-symbol .ensures .high); second-place = omega arith; second-count = omega arith }))
 
--- src/lib.rt:145:66
+-- src/lib.rt:120:66
 cut-positional-add-parse-attr-2 : (t : ℕ) → cut-positional-lts.Need-add-parse-attr-2 (
   find-symbol-reads.Asked,
   find-symbol-reads.Learnt,
@@ -222,7 +223,7 @@ cut-positional-add-parse-attr-2 : (t : ℕ) → cut-positional-lts.Need-add-pars
 ) (cut-positional-at t) cut-positional.Post
 cut-positional-add-parse-attr-2 t c = omega (arith, c .before .before .before .before .before .before .before .before .before .before .before .before .before .before .before .before .before .before .pre .1 .1 .0 .0, c .before .before .before .before .before .before .before .before .before .before .before .before .before .before .before .before .before .before .pre .1 .1 .0 .1, c .before .before .before .before .before .before .before .before .before .before .before .before .before .before .before .before .before .before .pre .1 .1 .1 .within, c .before .before .before .before .before .before .before .before .before .before .before .before .before .before .before .before .before .before .pre .1 .0 .few, c .before .before .before .before .before .before .before .before .before .before .before .before .before .before .before .before .before .before .good .1 .1 .1 .1 .1 .1 .0 .0)
 
--- src/lib.rt:145:5
+-- src/lib.rt:120:5
 cut-positional-parse-attr-requires : (t : ℕ) → cut-positional-lts.Need-parse-attr-requires (
   find-symbol-reads.Asked,
   find-symbol-reads.Learnt,
@@ -239,7 +240,7 @@ cut-positional-parse-attr-requires : (t : ℕ) → cut-positional-lts.Need-parse
 ) (cut-positional-at t) cut-positional.Post
 cut-positional-parse-attr-requires t c κs = (omega (arith, c .before .before .before .before .before .before .before .before .before .before .before .before .before .before .before .before .before .before .pre .0, c .before .before .before .before .before .before .before .if1 .left, c .before .before .before .before .before .before .before .before .before .before .before .before .before .before .before .before .before .before .pre .1 .1 .0 .0, c .before .before .before .before .before .before .before .before .before .before .before .before .before .before .before .before .before .before .pre .1 .1 .0 .1, c .before .before .before .before .before .before .before .before .before .before .before .before .before .before .before .before .before .before .pre .1 .1 .1 .within, c .before .before .before .before .before .before .before .before .before .before .before .before .before .before .before .before .before .before .pre .1 .0 .few, c .before .before .before .before .before .before .before .before .before .before .find-symbol .ensures .low, c .before .before .before .before .before .before .before .before .before .before .find-symbol .ensures .high), (c .before .before .before .before .before .before .before .before .before .before .before .before .before .before .before .before .before .before .pre .1 .0, (omega (arith, c .before .before .before .before .before .before .before .before .before .before .find-symbol .ensures .high), omega (arith, c .before .before .before .before .before .before .before .before .before .before .before .before .before .before .before .before .before .before .pre .1 .1 .0 .0, c .before .before .before .before .before .before .before .before .before .before .before .before .before .before .before .before .before .before .pre .1 .1 .0 .1, c .before .before .before .before .before .before .before .before .before .before .before .before .before .before .before .before .before .before .pre .1 .1 .1 .within, c .before .before .before .before .before .before .before .before .before .before .before .before .before .before .before .before .before .before .pre .1 .0 .few), omega (arith, c .before .before .before .before .before .before .before .before .before .before .before .before .before .before .before .before .before .before .pre .1 .1 .0 .0, c .before .before .before .before .before .before .before .before .before .before .before .before .before .before .before .before .before .before .pre .1 .1 .0 .1, c .before .before .before .before .before .before .before .before .before .before .before .before .before .before .before .before .before .before .pre .1 .1 .1 .within, c .before .before .before .before .before .before .before .before .before .before .before .before .before .before .before .before .before .before .pre .1 .0 .few, c .before .before .before .before .before .before .before .if1 .left, c .before .before .before .before .before .before .before .before .before .before .find-symbol .ensures .high, c .before .before .before .put-row .kept .0))))
 
--- src/lib.rt:117:1
+-- src/lib.rt:96:1
 cut-positional-same-length-2 : (t : ℕ) → cut-positional-lts.Need-same-length-2 (
   find-symbol-reads.Asked,
   find-symbol-reads.Learnt,
@@ -256,7 +257,7 @@ cut-positional-same-length-2 : (t : ℕ) → cut-positional-lts.Need-same-length
 ) (cut-positional-at t) cut-positional.Post
 cut-positional-same-length-2 t c = c .before .before .parse-attr .kept .1 .1 .1 .1 .1 .1 .1 .0 ∙ c .before .before .before .before .before .before .put-row .kept .0
 
--- src/lib.rt:117:1
+-- src/lib.rt:96:1
 cut-positional-returns-2 : (t : ℕ) → cut-positional-lts.Need-returns-2 (
   find-symbol-reads.Asked,
   find-symbol-reads.Learnt,
@@ -273,7 +274,7 @@ cut-positional-returns-2 : (t : ℕ) → cut-positional-lts.Need-returns-2 (
 ) (cut-positional-at t) cut-positional.Post
 cut-positional-returns-2 t c = all-told _ _ _ _ _ _ _ (cut-later (c .before .before .before .before .before .before .before .before .before .before .before .before .before .before .before .before .before .before .before .before .before .args .kinds .now) (c .before .before .before .before .before .before .before .before .before .before .before .before .before .before .before .before .before .before .before .before .before .args .text .now) (c .before .before .before .before .before .before .before .before .before .before .before .before .before .before .before .before .before .before .before .before .before .args .pairs .now) (c .before .before .before .before .before .before .before .before .before .before .before .before .before .before .before .before .before .before .before .before .before .args .run .place .0) (c .before .before .before .before .before .before .before .before .before .before .before .before .before .before .before .before .before .before .before .before .before .args .run .place .0 + c .before .before .before .before .before .before .before .before .before .before .before .before .before .before .before .before .before .before .before .before .before .args .run .count) (c .before .before .before .before .before .before .before .before .before .before .before .before .before .before .before .before .before .before .before .before .before .args .block) (c .before .before .before .before .before .before .before .before .before .before .before .before .before .before .before .before .before .before .before .before .before .args .has) (c .before .before .before .before .before .before .before .before .before .before .before .before .before .find-symbol .result .0) (c .before .before .before .before .before .before .before .before .before .before .before .before .before .find-symbol .ensures) (omega (arith, c .before .before .before .before .before .before .before .before .before .before .before .before .before .before .before .before .before .before .before .before .before .pre .1 .1 .0 .0)) (c .before .before .before .before .before .before .before .before .before .before .before .before .before .before .before .before .before .before .before .before .before .args .rows .now) (c .before .before .before .before .before .before .before .before .before .before .before .before .before .before .before .before .before .before .before .before .before .args .at) (c .before .before .before .before .before .before .before .before .before .before .if1 .left) (c .before .before .before .before .before .before .before .before .before .before .before .before .before .before .before .before .before .before .before .before .before .pre .1 .1 .1 .ends .first (omega (arith, c .before .before .before .before .before .before .before .before .before .before .before .before .before .before .before .before .before .before .before .before .before .pre .1 .1 .0 .0))) _ (c .before .before .before .before .before .before .before .before .run-of .ensures .0 _ _) _ (c .before .before .before .before .before .before .before .one-run .ensures) _ (c .before .before .before .before .before .before .put-row .ensures) _ _ (wrote-told _ _ _ _ _ (c .before .before .parse-attr .ensures .0) (c .before .before .parse-attr .ensures .1 .0))) refl (omega (arith, c .before .before .parse-attr .ensures .1 .1, c .before .before .before .before .before .before .before .before .before .before .before .before .before .before .before .before .before .before .before .before .before .pre .1 .1 .0 .0, c .before .before .before .before .before .before .before .before .before .before .before .before .before .before .before .before .before .before .before .before .before .pre .1 .1 .0 .1, c .before .before .before .before .before .before .before .before .before .before .before .before .before .before .before .before .before .before .before .before .before .pre .1 .1 .1 .within, c .before .before .before .before .before .before .before .before .before .before .before .before .before .before .before .before .before .before .before .before .before .pre .1 .0 .few, c .before .before .before .before .before .before .before .before .before .before .if1 .left, c .before .before .before .before .before .before .before .before .before .before .before .before .before .find-symbol .ensures .high))
 
--- src/lib.rt:54:9
+-- src/lib.rt:67:9
 parse-attr-trim-requires : (t : ℕ) → parse-attr-lts.Need-trim-requires (
   trim-reads.Asked,
   trim-reads.Learnt,
@@ -285,8 +286,10 @@ parse-attr-trim-requires : (t : ℕ) → parse-attr-lts.Need-trim-requires (
   attr-ir-reads.Learnt,
   cut-positional-below t,
   cut-positional.Post,
-  push-attr-groups-reads.Asked,
-  push-attr-groups-reads.Learnt,
+  put-named-reads.Asked,
+  put-named-reads.Learnt,
+  put-groups-reads.Asked,
+  put-groups-reads.Learnt,
   put-id-reads.Asked,
   put-id-reads.Learnt,
   push-shorthand-reads.Asked,
@@ -294,7 +297,7 @@ parse-attr-trim-requires : (t : ℕ) → parse-attr-lts.Need-trim-requires (
 ) (parse-attr-at t) parse-attr.Post
 parse-attr-trim-requires t c κs = (c .before .before .before .before .pre .1 .1 .0, c .before .before .before .before .pre .1 .1 .1)
 
--- src/lib.rt:57:34
+-- src/lib.rt:70:34
 parse-attr-one-run-requires : (t : ℕ) → parse-attr-lts.Need-one-run-requires (
   trim-reads.Asked,
   trim-reads.Learnt,
@@ -306,8 +309,10 @@ parse-attr-one-run-requires : (t : ℕ) → parse-attr-lts.Need-one-run-requires
   attr-ir-reads.Learnt,
   cut-positional-below t,
   cut-positional.Post,
-  push-attr-groups-reads.Asked,
-  push-attr-groups-reads.Learnt,
+  put-named-reads.Asked,
+  put-named-reads.Learnt,
+  put-groups-reads.Asked,
+  put-groups-reads.Learnt,
   put-id-reads.Asked,
   put-id-reads.Learnt,
   push-shorthand-reads.Asked,
@@ -315,7 +320,7 @@ parse-attr-one-run-requires : (t : ℕ) → parse-attr-lts.Need-one-run-requires
 ) (parse-attr-at t) parse-attr.Post
 parse-attr-one-run-requires t c κs = tt
 
--- src/lib.rt:57:9
+-- src/lib.rt:70:9
 parse-attr-put-one-requires : (t : ℕ) → parse-attr-lts.Need-put-one-requires (
   trim-reads.Asked,
   trim-reads.Learnt,
@@ -327,8 +332,10 @@ parse-attr-put-one-requires : (t : ℕ) → parse-attr-lts.Need-put-one-requires
   attr-ir-reads.Learnt,
   cut-positional-below t,
   cut-positional.Post,
-  push-attr-groups-reads.Asked,
-  push-attr-groups-reads.Learnt,
+  put-named-reads.Asked,
+  put-named-reads.Learnt,
+  put-groups-reads.Asked,
+  put-groups-reads.Learnt,
   put-id-reads.Asked,
   put-id-reads.Learnt,
   push-shorthand-reads.Asked,
@@ -336,7 +343,7 @@ parse-attr-put-one-requires : (t : ℕ) → parse-attr-lts.Need-put-one-requires
 ) (parse-attr-at t) parse-attr.Post
 parse-attr-put-one-requires t c κs = (omega (arith, c .before .before .before .before .before .before .before .before .pre .1 .1 .2), subst (λ (r : Row). Fits r) (sym (c .one-run .ensures)) (record { first-place = omega (arith, c .before .before .before .before .before .before .before .before .pre .1 .1 .0, c .before .before .before .before .before .before .before .before .pre .1 .1 .1, c .before .before .before .before .before .before .before .before .pre .1 .1 .2, c .before .before .before .before .before .before .before .before .pre .1 .0 .few, c .before .before .before .trim .ensures .1 .within, c .before .before .before .trim .ensures .1 .few, c .before .before .before .trim .ensures .1 .within); first-count = omega (arith, c .before .before .before .before .before .before .before .before .pre .1 .1 .0, c .before .before .before .before .before .before .before .before .pre .1 .1 .1, c .before .before .before .before .before .before .before .before .pre .1 .1 .2, c .before .before .before .before .before .before .before .before .pre .1 .0 .few, c .before .before .before .trim .ensures .1 .within, c .before .before .before .trim .ensures .1 .few, c .before .before .before .trim .ensures .1 .within); second-place = omega arith; second-count = omega arith }))
 
--- src/lib.rt:57:9
+-- src/lib.rt:70:9
 parse-attr-same-length : (t : ℕ) → parse-attr-lts.Need-same-length (
   trim-reads.Asked,
   trim-reads.Learnt,
@@ -348,8 +355,10 @@ parse-attr-same-length : (t : ℕ) → parse-attr-lts.Need-same-length (
   attr-ir-reads.Learnt,
   cut-positional-below t,
   cut-positional.Post,
-  push-attr-groups-reads.Asked,
-  push-attr-groups-reads.Learnt,
+  put-named-reads.Asked,
+  put-named-reads.Learnt,
+  put-groups-reads.Asked,
+  put-groups-reads.Learnt,
   put-id-reads.Asked,
   put-id-reads.Learnt,
   push-shorthand-reads.Asked,
@@ -357,7 +366,7 @@ parse-attr-same-length : (t : ℕ) → parse-attr-lts.Need-same-length (
 ) (parse-attr-at t) parse-attr.Post
 parse-attr-same-length t c = c .before .before .put-one .kept .0
 
--- src/lib.rt:57:9
+-- src/lib.rt:70:9
 parse-attr-returns : (t : ℕ) → parse-attr-lts.Need-returns (
   trim-reads.Asked,
   trim-reads.Learnt,
@@ -369,8 +378,10 @@ parse-attr-returns : (t : ℕ) → parse-attr-lts.Need-returns (
   attr-ir-reads.Learnt,
   cut-positional-below t,
   cut-positional.Post,
-  push-attr-groups-reads.Asked,
-  push-attr-groups-reads.Learnt,
+  put-named-reads.Asked,
+  put-named-reads.Learnt,
+  put-groups-reads.Asked,
+  put-groups-reads.Learnt,
   put-id-reads.Asked,
   put-id-reads.Learnt,
   push-shorthand-reads.Asked,
@@ -378,8 +389,8 @@ parse-attr-returns : (t : ℕ) → parse-attr-lts.Need-returns (
 ) (parse-attr-at t) parse-attr.Post
 parse-attr-returns t c = all-told _ _ _ _ _ _ _ (c .before .before .put-one .ensures) (whole-empty (c .before .before .before .before .before .before .before .before .before .before .before .args .kinds .now) (c .before .before .before .before .before .before .before .before .before .before .before .args .text .now) (c .before .before .before .before .before .before .before .before .before .before .before .args .pairs .now) (c .before .before .before .before .before .before .before .before .before .before .before .args .from .0) (c .before .before .before .before .before .before .before .before .before .before .before .args .to .0) (c .before .before .before .before .before .before .before .before .before .before .before .args .block) (c .before .before .before .before .before .before .before .before .before .before .before .args .has) (c .before .before .before .before .before .before .trim .result) (c .before .before .before .before .before .before .trim .ensures .0) (c .before .before .before .before .before .before .trim .ensures .1) (c .before .before .before .before .before .if1 .taken) _ (c .before .before .before .one-run .ensures)) (omega (arith, c .before .before .put-one .ensures .wrote .count))
 
--- src/lib.rt:65:20
-parse-attr-add-t36 : (t : ℕ) → parse-attr-lts.Need-add-t36 (
+-- src/lib.rt:73:26
+parse-attr-add-t31 : (t : ℕ) → parse-attr-lts.Need-add-t31 (
   trim-reads.Asked,
   trim-reads.Learnt,
   one-run-reads.Asked,
@@ -390,16 +401,18 @@ parse-attr-add-t36 : (t : ℕ) → parse-attr-lts.Need-add-t36 (
   attr-ir-reads.Learnt,
   cut-positional-below t,
   cut-positional.Post,
-  push-attr-groups-reads.Asked,
-  push-attr-groups-reads.Learnt,
+  put-named-reads.Asked,
+  put-named-reads.Learnt,
+  put-groups-reads.Asked,
+  put-groups-reads.Learnt,
   put-id-reads.Asked,
   put-id-reads.Learnt,
   push-shorthand-reads.Asked,
   push-shorthand-reads.Learnt,
 ) (parse-attr-at t) parse-attr.Post
-parse-attr-add-t36 t c = omega (arith, c .before .before .before .before .before .before .before .before .pre .1 .1 .0, c .before .before .before .before .before .before .before .before .pre .1 .1 .1, c .before .before .before .before .before .before .before .before .pre .1 .1 .2, c .before .before .before .before .before .before .before .before .pre .1 .0 .few, c .before .before .before .trim .ensures .1 .within, c .before .before .before .trim .ensures .1 .few)
+parse-attr-add-t31 t c = omega (arith, c .before .before .before .before .before .before .before .before .pre .1 .1 .0, c .before .before .before .before .before .before .before .before .pre .1 .1 .1, c .before .before .before .before .before .before .before .before .pre .1 .1 .2, c .before .before .before .before .before .before .before .before .pre .1 .0 .few, c .before .before .before .trim .ensures .1 .within, c .before .before .before .trim .ensures .1 .few)
 
--- src/lib.rt:60:9
+-- src/lib.rt:74:9
 parse-attr-attr-ir-requires : (t : ℕ) → parse-attr-lts.Need-attr-ir-requires (
   trim-reads.Asked,
   trim-reads.Learnt,
@@ -411,8 +424,10 @@ parse-attr-attr-ir-requires : (t : ℕ) → parse-attr-lts.Need-attr-ir-requires
   attr-ir-reads.Learnt,
   cut-positional-below t,
   cut-positional.Post,
-  push-attr-groups-reads.Asked,
-  push-attr-groups-reads.Learnt,
+  put-named-reads.Asked,
+  put-named-reads.Learnt,
+  put-groups-reads.Asked,
+  put-groups-reads.Learnt,
   put-id-reads.Asked,
   put-id-reads.Learnt,
   push-shorthand-reads.Asked,
@@ -420,7 +435,7 @@ parse-attr-attr-ir-requires : (t : ℕ) → parse-attr-lts.Need-attr-ir-requires
 ) (parse-attr-at t) parse-attr.Post
 parse-attr-attr-ir-requires t c κs = (c .before .before .before .before .before .before .before .before .pre .1 .0, (omega arith, omega (arith, c .before .before .before .before .before .before .before .before .pre .1 .1 .0, c .before .before .before .before .before .before .before .before .pre .1 .1 .1, c .before .before .before .before .before .before .before .before .pre .1 .1 .2, c .before .before .before .before .before .before .before .before .pre .1 .0 .few, c .before .before .before .trim .ensures .1 .within, c .before .before .before .trim .ensures .1 .few)))
 
--- src/lib.rt:69:30
+-- src/lib.rt:76:30
 parse-attr-enum-known-ir : (t : ℕ) → parse-attr-lts.Need-enum-known-ir (
   trim-reads.Asked,
   trim-reads.Learnt,
@@ -432,8 +447,10 @@ parse-attr-enum-known-ir : (t : ℕ) → parse-attr-lts.Need-enum-known-ir (
   attr-ir-reads.Learnt,
   cut-positional-below t,
   cut-positional.Post,
-  push-attr-groups-reads.Asked,
-  push-attr-groups-reads.Learnt,
+  put-named-reads.Asked,
+  put-named-reads.Learnt,
+  put-groups-reads.Asked,
+  put-groups-reads.Learnt,
   put-id-reads.Asked,
   put-id-reads.Learnt,
   push-shorthand-reads.Asked,
@@ -441,7 +458,7 @@ parse-attr-enum-known-ir : (t : ℕ) → parse-attr-lts.Need-enum-known-ir (
 ) (parse-attr-at t) parse-attr.Post
 parse-attr-enum-known-ir t c = c .match .keys1
 
--- src/lib.rt:71:17
+-- src/lib.rt:78:17
 parse-attr-cut-positional-requires : (t : ℕ) → parse-attr-lts.Need-cut-positional-requires (
   trim-reads.Asked,
   trim-reads.Learnt,
@@ -453,8 +470,10 @@ parse-attr-cut-positional-requires : (t : ℕ) → parse-attr-lts.Need-cut-posit
   attr-ir-reads.Learnt,
   cut-positional-below t,
   cut-positional.Post,
-  push-attr-groups-reads.Asked,
-  push-attr-groups-reads.Learnt,
+  put-named-reads.Asked,
+  put-named-reads.Learnt,
+  put-groups-reads.Asked,
+  put-groups-reads.Learnt,
   put-id-reads.Asked,
   put-id-reads.Learnt,
   push-shorthand-reads.Asked,
@@ -462,7 +481,7 @@ parse-attr-cut-positional-requires : (t : ℕ) → parse-attr-lts.Need-cut-posit
 ) (parse-attr-at t) parse-attr.Post
 parse-attr-cut-positional-requires t c κs = (omega (arith, c .before .before .before .before .before .before .before .before .before .before .before .before .before .before .pre .0, c .before .before .before .before .before .before .before .before .before .before .before .before .before .before .pre .1 .1 .0, c .before .before .before .before .before .before .before .before .before .before .before .before .before .before .pre .1 .1 .1, c .before .before .before .before .before .before .before .before .before .before .before .before .before .before .pre .1 .1 .2, c .before .before .before .before .before .before .before .before .before .before .before .before .before .before .pre .1 .0 .few, c .before .before .before .before .before .before .before .before .before .trim .ensures .1 .within, c .before .before .before .before .before .before .before .before .before .trim .ensures .1 .few, (subst (λ (x : AttrIr). Bounded (c .before .before .before .before .before .before .before .before .before .before .before .before .before .before .args .kinds .now) (c .before .before .before .before .before .before .before .before .before .trim .result .place .0) (c .before .before .before .before .before .before .before .before .before .trim .result .place .0 + c .before .before .before .before .before .before .before .before .before .trim .result .count) x) (c .before .before .before .ir .given .1) (c .before .before .before .before .before .attr-ir .ensures .1 .1)) .few), (c .before .before .before .before .before .before .before .before .before .before .before .before .before .before .pre .1 .0, ((cut-some (c .before .before .before .before .before .before .before .before .before .before .before .before .before .before .args .kinds .now) (c .before .before .before .before .before .before .before .before .before .before .before .before .before .before .args .text .now) (c .before .before .before .before .before .before .before .before .before .before .before .before .before .before .args .pairs .now) (c .before .before .before .before .before .before .before .before .before .before .before .before .before .before .args .from .0) (c .before .before .before .before .before .before .before .before .before .before .before .before .before .before .args .to .0) (c .before .before .before .before .before .before .before .before .before .before .before .before .before .before .args .block) (c .before .before .before .before .before .before .before .before .before .before .before .before .before .before .args .has) (c .before .before .before .before .before .before .before .before .before .trim .result) (c .before .before .before .before .before .before .before .before .before .trim .ensures .0) (c .before .before .before .before .before .before .before .before .before .trim .ensures .1) (c .before .before .before .before .before .before .before .before .if1 .left) (c .before .before .before .before .before .attr-ir .result) (c .before .before .before .before .before .attr-ir .ensures .1 .0) (c .before .before .before .ir .given .0 .0) (c .before .before .before .ir .given .0 .1 .0) (c .before .before .before .ir .given .1) (c .before .if2 .taken), omega (arith, c .before .before .before .before .before .before .before .before .before .before .before .before .before .before .pre .1 .1 .0, c .before .before .before .before .before .before .before .before .before .before .before .before .before .before .pre .1 .1 .1, c .before .before .before .before .before .before .before .before .before .before .before .before .before .before .pre .1 .1 .2, c .before .before .before .before .before .before .before .before .before .before .before .before .before .before .pre .1 .0 .few, c .before .before .before .before .before .before .before .before .before .trim .ensures .1 .within, c .before .before .before .before .before .before .before .before .before .trim .ensures .1 .few, (subst (λ (x : AttrIr). Bounded (c .before .before .before .before .before .before .before .before .before .before .before .before .before .before .args .kinds .now) (c .before .before .before .before .before .before .before .before .before .trim .result .place .0) (c .before .before .before .before .before .before .before .before .before .trim .result .place .0 + c .before .before .before .before .before .before .before .before .before .trim .result .count) x) (c .before .before .before .ir .given .1) (c .before .before .before .before .before .attr-ir .ensures .1 .1)) .few)), in-own _ _ _ _ (subst (λ (x : AttrIr). Bounded (c .before .before .before .before .before .before .before .before .before .before .before .before .before .before .args .kinds .now) (c .before .before .before .before .before .before .before .before .before .trim .result .place .0) (c .before .before .before .before .before .before .before .before .before .trim .result .place .0 + c .before .before .before .before .before .before .before .before .before .trim .result .count) x) (c .before .before .before .ir .given .1) (c .before .before .before .before .before .attr-ir .ensures .1 .1)) (omega (arith, c .before .before .before .before .before .before .before .before .before .before .before .before .before .before .pre .1 .1 .0, c .before .before .before .before .before .before .before .before .before .before .before .before .before .before .pre .1 .1 .1, c .before .before .before .before .before .before .before .before .before .before .before .before .before .before .pre .1 .1 .2, c .before .before .before .before .before .before .before .before .before .before .before .before .before .before .pre .1 .0 .few, c .before .before .before .before .before .before .before .before .before .trim .ensures .1 .within, c .before .before .before .before .before .before .before .before .before .trim .ensures .1 .few)))))
 
--- src/lib.rt:71:17
+-- src/lib.rt:78:17
 parse-attr-same-length-2 : (t : ℕ) → parse-attr-lts.Need-same-length-2 (
   trim-reads.Asked,
   trim-reads.Learnt,
@@ -474,8 +493,10 @@ parse-attr-same-length-2 : (t : ℕ) → parse-attr-lts.Need-same-length-2 (
   attr-ir-reads.Learnt,
   cut-positional-below t,
   cut-positional.Post,
-  push-attr-groups-reads.Asked,
-  push-attr-groups-reads.Learnt,
+  put-named-reads.Asked,
+  put-named-reads.Learnt,
+  put-groups-reads.Asked,
+  put-groups-reads.Learnt,
   put-id-reads.Asked,
   put-id-reads.Learnt,
   push-shorthand-reads.Asked,
@@ -483,7 +504,7 @@ parse-attr-same-length-2 : (t : ℕ) → parse-attr-lts.Need-same-length-2 (
 ) (parse-attr-at t) parse-attr.Post
 parse-attr-same-length-2 t c = c .before .before .cut-positional .kept .1 .1 .1 .1 .1 .1 .0
 
--- src/lib.rt:71:17
+-- src/lib.rt:78:17
 parse-attr-returns-2 : (t : ℕ) → parse-attr-lts.Need-returns-2 (
   trim-reads.Asked,
   trim-reads.Learnt,
@@ -495,8 +516,10 @@ parse-attr-returns-2 : (t : ℕ) → parse-attr-lts.Need-returns-2 (
   attr-ir-reads.Learnt,
   cut-positional-below t,
   cut-positional.Post,
-  push-attr-groups-reads.Asked,
-  push-attr-groups-reads.Learnt,
+  put-named-reads.Asked,
+  put-named-reads.Learnt,
+  put-groups-reads.Asked,
+  put-groups-reads.Learnt,
   put-id-reads.Asked,
   put-id-reads.Learnt,
   push-shorthand-reads.Asked,
@@ -504,7 +527,7 @@ parse-attr-returns-2 : (t : ℕ) → parse-attr-lts.Need-returns-2 (
 ) (parse-attr-at t) parse-attr.Post
 parse-attr-returns-2 t c = (c .before .before .cut-positional .ensures .0 ∙ ap (written (c .before .before .before .before .before .before .before .before .before .before .before .before .before .before .before .before .before .args .at)) (whole-cut (c .before .before .before .before .before .before .before .before .before .before .before .before .before .before .before .before .before .args .kinds .now) (c .before .before .before .before .before .before .before .before .before .before .before .before .before .before .before .before .before .args .text .now) (c .before .before .before .before .before .before .before .before .before .before .before .before .before .before .before .before .before .args .pairs .now) (c .before .before .before .before .before .before .before .before .before .before .before .before .before .before .before .before .before .args .from .0) (c .before .before .before .before .before .before .before .before .before .before .before .before .before .before .before .before .before .args .to .0) (c .before .before .before .before .before .before .before .before .before .before .before .before .before .before .before .before .before .args .block) (c .before .before .before .before .before .before .before .before .before .before .before .before .before .before .before .before .before .args .has) (c .before .before .before .before .before .before .before .before .before .before .before .before .trim .result) (c .before .before .before .before .before .before .before .before .before .before .before .before .trim .ensures .0) (c .before .before .before .before .before .before .before .before .before .before .before .before .trim .ensures .1) (c .before .before .before .before .before .before .before .before .before .before .before .if1 .left) (c .before .before .before .before .before .before .before .before .attr-ir .result) (c .before .before .before .before .before .before .before .before .attr-ir .ensures .1 .0) (c .before .before .before .before .before .before .ir .given .0 .0) (c .before .before .before .before .before .before .ir .given .0 .1 .0) (c .before .before .before .before .before .before .ir .given .1) (c .before .before .before .before .if2 .taken)), (c .before .before .cut-positional .ensures .1 .0 ∙ ap (λ (x : Read). withRows (c .before .before .before .before .before .before .before .before .before .before .before .before .before .before .before .before .before .args .rows .now) (c .before .before .before .before .before .before .before .before .before .before .before .before .before .before .before .before .before .args .at) (x .rows)) (whole-cut (c .before .before .before .before .before .before .before .before .before .before .before .before .before .before .before .before .before .args .kinds .now) (c .before .before .before .before .before .before .before .before .before .before .before .before .before .before .before .before .before .args .text .now) (c .before .before .before .before .before .before .before .before .before .before .before .before .before .before .before .before .before .args .pairs .now) (c .before .before .before .before .before .before .before .before .before .before .before .before .before .before .before .before .before .args .from .0) (c .before .before .before .before .before .before .before .before .before .before .before .before .before .before .before .before .before .args .to .0) (c .before .before .before .before .before .before .before .before .before .before .before .before .before .before .before .before .before .args .block) (c .before .before .before .before .before .before .before .before .before .before .before .before .before .before .before .before .before .args .has) (c .before .before .before .before .before .before .before .before .before .before .before .before .trim .result) (c .before .before .before .before .before .before .before .before .before .before .before .before .trim .ensures .0) (c .before .before .before .before .before .before .before .before .before .before .before .before .trim .ensures .1) (c .before .before .before .before .before .before .before .before .before .before .before .if1 .left) (c .before .before .before .before .before .before .before .before .attr-ir .result) (c .before .before .before .before .before .before .before .before .attr-ir .ensures .1 .0) (c .before .before .before .before .before .before .ir .given .0 .0) (c .before .before .before .before .before .before .ir .given .0 .1 .0) (c .before .before .before .before .before .before .ir .given .1) (c .before .before .before .before .if2 .taken)), omega (arith, c .before .before .cut-positional .ensures .1 .1, c .before .before .before .before .before .before .before .before .before .before .before .before .before .before .before .before .before .pre .1 .1 .0, c .before .before .before .before .before .before .before .before .before .before .before .before .before .before .before .before .before .pre .1 .1 .1, c .before .before .before .before .before .before .before .before .before .before .before .before .before .before .before .before .before .pre .1 .1 .2, c .before .before .before .before .before .before .before .before .before .before .before .before .before .before .before .before .before .pre .1 .0 .few, c .before .before .before .before .before .before .before .before .before .before .before .before .trim .ensures .1 .within, c .before .before .before .before .before .before .before .before .before .before .before .before .trim .ensures .1 .few, (subst (λ (x : AttrIr). Bounded (c .before .before .before .before .before .before .before .before .before .before .before .before .before .before .before .before .before .args .kinds .now) (c .before .before .before .before .before .before .before .before .before .before .before .before .trim .result .place .0) (c .before .before .before .before .before .before .before .before .before .before .before .before .trim .result .place .0 + c .before .before .before .before .before .before .before .before .before .before .before .before .trim .result .count) x) (c .before .before .before .before .before .before .ir .given .1) (c .before .before .before .before .before .before .before .before .attr-ir .ensures .1 .1)) .few)))
 
--- src/lib.rt:73:31
+-- src/lib.rt:80:31
 parse-attr-one-run-requires-2 : (t : ℕ) → parse-attr-lts.Need-one-run-requires-2 (
   trim-reads.Asked,
   trim-reads.Learnt,
@@ -516,8 +539,10 @@ parse-attr-one-run-requires-2 : (t : ℕ) → parse-attr-lts.Need-one-run-requir
   attr-ir-reads.Learnt,
   cut-positional-below t,
   cut-positional.Post,
-  push-attr-groups-reads.Asked,
-  push-attr-groups-reads.Learnt,
+  put-named-reads.Asked,
+  put-named-reads.Learnt,
+  put-groups-reads.Asked,
+  put-groups-reads.Learnt,
   put-id-reads.Asked,
   put-id-reads.Learnt,
   push-shorthand-reads.Asked,
@@ -525,7 +550,7 @@ parse-attr-one-run-requires-2 : (t : ℕ) → parse-attr-lts.Need-one-run-requir
 ) (parse-attr-at t) parse-attr.Post
 parse-attr-one-run-requires-2 t c κs = tt
 
--- src/lib.rt:73:13
+-- src/lib.rt:80:13
 parse-attr-put-one-requires-2 : (t : ℕ) → parse-attr-lts.Need-put-one-requires-2 (
   trim-reads.Asked,
   trim-reads.Learnt,
@@ -537,8 +562,10 @@ parse-attr-put-one-requires-2 : (t : ℕ) → parse-attr-lts.Need-put-one-requir
   attr-ir-reads.Learnt,
   cut-positional-below t,
   cut-positional.Post,
-  push-attr-groups-reads.Asked,
-  push-attr-groups-reads.Learnt,
+  put-named-reads.Asked,
+  put-named-reads.Learnt,
+  put-groups-reads.Asked,
+  put-groups-reads.Learnt,
   put-id-reads.Asked,
   put-id-reads.Learnt,
   push-shorthand-reads.Asked,
@@ -546,7 +573,7 @@ parse-attr-put-one-requires-2 : (t : ℕ) → parse-attr-lts.Need-put-one-requir
 ) (parse-attr-at t) parse-attr.Post
 parse-attr-put-one-requires-2 t c κs = (omega (arith, c .before .before .before .before .before .before .before .before .before .before .before .before .before .before .before .pre .1 .1 .0, c .before .before .before .before .before .before .before .before .before .before .before .before .before .before .before .pre .1 .1 .1, c .before .before .before .before .before .before .before .before .before .before .before .before .before .before .before .pre .1 .1 .2, c .before .before .before .before .before .before .before .before .before .before .before .before .before .before .before .pre .1 .0 .few, c .before .before .before .before .before .before .before .before .before .before .trim .ensures .1 .within, c .before .before .before .before .before .before .before .before .before .before .trim .ensures .1 .few), subst (λ (r : Row). Fits r) (sym (c .one-run2 .ensures)) (record { first-place = omega (arith, c .before .before .before .before .before .before .before .before .before .before .before .before .before .before .before .pre .1 .1 .0, c .before .before .before .before .before .before .before .before .before .before .before .before .before .before .before .pre .1 .1 .1, c .before .before .before .before .before .before .before .before .before .before .before .before .before .before .before .pre .1 .1 .2, c .before .before .before .before .before .before .before .before .before .before .before .before .before .before .before .pre .1 .0 .few, c .before .before .before .before .before .before .before .before .before .before .trim .ensures .1 .within, c .before .before .before .before .before .before .before .before .before .before .trim .ensures .1 .few, (subst (λ (x : AttrIr). Bounded (c .before .before .before .before .before .before .before .before .before .before .before .before .before .before .before .args .kinds .now) (c .before .before .before .before .before .before .before .before .before .before .trim .result .place .0) (c .before .before .before .before .before .before .before .before .before .before .trim .result .place .0 + c .before .before .before .before .before .before .before .before .before .before .trim .result .count) x) (c .before .before .before .before .ir .given .1) (c .before .before .before .before .before .before .attr-ir .ensures .1 .1)) .within); first-count = omega (arith, c .before .before .before .before .before .before .before .before .before .before .before .before .before .before .before .pre .1 .1 .0, c .before .before .before .before .before .before .before .before .before .before .before .before .before .before .before .pre .1 .1 .1, c .before .before .before .before .before .before .before .before .before .before .before .before .before .before .before .pre .1 .1 .2, c .before .before .before .before .before .before .before .before .before .before .before .before .before .before .before .pre .1 .0 .few, c .before .before .before .before .before .before .before .before .before .before .trim .ensures .1 .within, c .before .before .before .before .before .before .before .before .before .before .trim .ensures .1 .few, (subst (λ (x : AttrIr). Bounded (c .before .before .before .before .before .before .before .before .before .before .before .before .before .before .before .args .kinds .now) (c .before .before .before .before .before .before .before .before .before .before .trim .result .place .0) (c .before .before .before .before .before .before .before .before .before .before .trim .result .place .0 + c .before .before .before .before .before .before .before .before .before .before .trim .result .count) x) (c .before .before .before .before .ir .given .1) (c .before .before .before .before .before .before .attr-ir .ensures .1 .1)) .within); second-place = omega arith; second-count = omega arith }))
 
--- src/lib.rt:75:25
+-- src/lib.rt:82:25
 parse-attr-enum-known-ir-2 : (t : ℕ) → parse-attr-lts.Need-enum-known-ir-2 (
   trim-reads.Asked,
   trim-reads.Learnt,
@@ -558,8 +585,10 @@ parse-attr-enum-known-ir-2 : (t : ℕ) → parse-attr-lts.Need-enum-known-ir-2 (
   attr-ir-reads.Learnt,
   cut-positional-below t,
   cut-positional.Post,
-  push-attr-groups-reads.Asked,
-  push-attr-groups-reads.Learnt,
+  put-named-reads.Asked,
+  put-named-reads.Learnt,
+  put-groups-reads.Asked,
+  put-groups-reads.Learnt,
   put-id-reads.Asked,
   put-id-reads.Learnt,
   push-shorthand-reads.Asked,
@@ -567,8 +596,8 @@ parse-attr-enum-known-ir-2 : (t : ℕ) → parse-attr-lts.Need-enum-known-ir-2 (
 ) (parse-attr-at t) parse-attr.Post
 parse-attr-enum-known-ir-2 t c = c .match .keys2
 
--- src/lib.rt:81:13
-parse-attr-put-one-requires-3 : (t : ℕ) → parse-attr-lts.Need-put-one-requires-3 (
+-- src/lib.rt:82:42
+parse-attr-put-named-requires : (t : ℕ) → parse-attr-lts.Need-put-named-requires (
   trim-reads.Asked,
   trim-reads.Learnt,
   one-run-reads.Asked,
@@ -579,14 +608,16 @@ parse-attr-put-one-requires-3 : (t : ℕ) → parse-attr-lts.Need-put-one-requir
   attr-ir-reads.Learnt,
   cut-positional-below t,
   cut-positional.Post,
-  push-attr-groups-reads.Asked,
-  push-attr-groups-reads.Learnt,
+  put-named-reads.Asked,
+  put-named-reads.Learnt,
+  put-groups-reads.Asked,
+  put-groups-reads.Learnt,
   put-id-reads.Asked,
   put-id-reads.Learnt,
   push-shorthand-reads.Asked,
   push-shorthand-reads.Learnt,
 ) (parse-attr-at t) parse-attr.Post
-parse-attr-put-one-requires-3 t c κs = (omega (arith, c .before .before .before .before .before .before .before .before .before .before .before .before .before .pre .1 .1 .0, c .before .before .before .before .before .before .before .before .before .before .before .before .before .pre .1 .1 .1, c .before .before .before .before .before .before .before .before .before .before .before .before .before .pre .1 .1 .2, c .before .before .before .before .before .before .before .before .before .before .before .before .before .pre .1 .0 .few, c .before .before .before .before .before .before .before .before .trim .ensures .1 .within, c .before .before .before .before .before .before .before .before .trim .ensures .1 .few), record { first-place = omega (arith, c .before .before .before .before .before .before .before .before .before .before .before .before .before .pre .1 .1 .0, c .before .before .before .before .before .before .before .before .before .before .before .before .before .pre .1 .1 .1, c .before .before .before .before .before .before .before .before .before .before .before .before .before .pre .1 .1 .2, c .before .before .before .before .before .before .before .before .before .before .before .before .before .pre .1 .0 .few, c .before .before .before .before .before .before .before .before .trim .ensures .1 .within, c .before .before .before .before .before .before .before .before .trim .ensures .1 .few, (subst (λ (x : AttrIr). Bounded (c .before .before .before .before .before .before .before .before .before .before .before .before .before .args .kinds .now) (c .before .before .before .before .before .before .before .before .trim .result .place .0) (c .before .before .before .before .before .before .before .before .trim .result .place .0 + c .before .before .before .before .before .before .before .before .trim .result .count) x) (c .before .before .ir2 .given .1) (c .before .before .before .before .attr-ir .ensures .1 .1)) .0 .within); first-count = omega (arith, c .before .before .before .before .before .before .before .before .before .before .before .before .before .pre .1 .1 .0, c .before .before .before .before .before .before .before .before .before .before .before .before .before .pre .1 .1 .1, c .before .before .before .before .before .before .before .before .before .before .before .before .before .pre .1 .1 .2, c .before .before .before .before .before .before .before .before .before .before .before .before .before .pre .1 .0 .few, c .before .before .before .before .before .before .before .before .trim .ensures .1 .within, c .before .before .before .before .before .before .before .before .trim .ensures .1 .few, (subst (λ (x : AttrIr). Bounded (c .before .before .before .before .before .before .before .before .before .before .before .before .before .args .kinds .now) (c .before .before .before .before .before .before .before .before .trim .result .place .0) (c .before .before .before .before .before .before .before .before .trim .result .place .0 + c .before .before .before .before .before .before .before .before .trim .result .count) x) (c .before .before .ir2 .given .1) (c .before .before .before .before .attr-ir .ensures .1 .1)) .0 .within); second-place = omega (arith, c .before .before .before .before .before .before .before .before .before .before .before .before .before .pre .1 .1 .0, c .before .before .before .before .before .before .before .before .before .before .before .before .before .pre .1 .1 .1, c .before .before .before .before .before .before .before .before .before .before .before .before .before .pre .1 .1 .2, c .before .before .before .before .before .before .before .before .before .before .before .before .before .pre .1 .0 .few, c .before .before .before .before .before .before .before .before .trim .ensures .1 .within, c .before .before .before .before .before .before .before .before .trim .ensures .1 .few, (subst (λ (x : AttrIr). Bounded (c .before .before .before .before .before .before .before .before .before .before .before .before .before .args .kinds .now) (c .before .before .before .before .before .before .before .before .trim .result .place .0) (c .before .before .before .before .before .before .before .before .trim .result .place .0 + c .before .before .before .before .before .before .before .before .trim .result .count) x) (c .before .before .ir2 .given .1) (c .before .before .before .before .attr-ir .ensures .1 .1)) .1 .within); second-count = omega (arith, c .before .before .before .before .before .before .before .before .before .before .before .before .before .pre .1 .1 .0, c .before .before .before .before .before .before .before .before .before .before .before .before .before .pre .1 .1 .1, c .before .before .before .before .before .before .before .before .before .before .before .before .before .pre .1 .1 .2, c .before .before .before .before .before .before .before .before .before .before .before .before .before .pre .1 .0 .few, c .before .before .before .before .before .before .before .before .trim .ensures .1 .within, c .before .before .before .before .before .before .before .before .trim .ensures .1 .few, (subst (λ (x : AttrIr). Bounded (c .before .before .before .before .before .before .before .before .before .before .before .before .before .args .kinds .now) (c .before .before .before .before .before .before .before .before .trim .result .place .0) (c .before .before .before .before .before .before .before .before .trim .result .place .0 + c .before .before .before .before .before .before .before .before .trim .result .count) x) (c .before .before .ir2 .given .1) (c .before .before .before .before .attr-ir .ensures .1 .1)) .1 .within) })
+parse-attr-put-named-requires t c κs = (omega (arith, c .before .before .before .before .before .before .before .before .before .before .before .before .before .pre .1 .1 .0, c .before .before .before .before .before .before .before .before .before .before .before .before .before .pre .1 .1 .1, c .before .before .before .before .before .before .before .before .before .before .before .before .before .pre .1 .1 .2, c .before .before .before .before .before .before .before .before .before .before .before .before .before .pre .1 .0 .few, c .before .before .before .before .before .before .before .before .trim .ensures .1 .within, c .before .before .before .before .before .before .before .before .trim .ensures .1 .few), record { first-place = omega (arith, c .before .before .before .before .before .before .before .before .before .before .before .before .before .pre .1 .1 .0, c .before .before .before .before .before .before .before .before .before .before .before .before .before .pre .1 .1 .1, c .before .before .before .before .before .before .before .before .before .before .before .before .before .pre .1 .1 .2, c .before .before .before .before .before .before .before .before .before .before .before .before .before .pre .1 .0 .few, c .before .before .before .before .before .before .before .before .trim .ensures .1 .within, c .before .before .before .before .before .before .before .before .trim .ensures .1 .few, (subst (λ (x : AttrIr). Bounded (c .before .before .before .before .before .before .before .before .before .before .before .before .before .args .kinds .now) (c .before .before .before .before .before .before .before .before .trim .result .place .0) (c .before .before .before .before .before .before .before .before .trim .result .place .0 + c .before .before .before .before .before .before .before .before .trim .result .count) x) (c .before .before .ir2 .given .1) (c .before .before .before .before .attr-ir .ensures .1 .1)) .0 .within); first-count = omega (arith, c .before .before .before .before .before .before .before .before .before .before .before .before .before .pre .1 .1 .0, c .before .before .before .before .before .before .before .before .before .before .before .before .before .pre .1 .1 .1, c .before .before .before .before .before .before .before .before .before .before .before .before .before .pre .1 .1 .2, c .before .before .before .before .before .before .before .before .before .before .before .before .before .pre .1 .0 .few, c .before .before .before .before .before .before .before .before .trim .ensures .1 .within, c .before .before .before .before .before .before .before .before .trim .ensures .1 .few, (subst (λ (x : AttrIr). Bounded (c .before .before .before .before .before .before .before .before .before .before .before .before .before .args .kinds .now) (c .before .before .before .before .before .before .before .before .trim .result .place .0) (c .before .before .before .before .before .before .before .before .trim .result .place .0 + c .before .before .before .before .before .before .before .before .trim .result .count) x) (c .before .before .ir2 .given .1) (c .before .before .before .before .attr-ir .ensures .1 .1)) .0 .within); second-place = omega (arith, c .before .before .before .before .before .before .before .before .before .before .before .before .before .pre .1 .1 .0, c .before .before .before .before .before .before .before .before .before .before .before .before .before .pre .1 .1 .1, c .before .before .before .before .before .before .before .before .before .before .before .before .before .pre .1 .1 .2, c .before .before .before .before .before .before .before .before .before .before .before .before .before .pre .1 .0 .few, c .before .before .before .before .before .before .before .before .trim .ensures .1 .within, c .before .before .before .before .before .before .before .before .trim .ensures .1 .few, (subst (λ (x : AttrIr). Bounded (c .before .before .before .before .before .before .before .before .before .before .before .before .before .args .kinds .now) (c .before .before .before .before .before .before .before .before .trim .result .place .0) (c .before .before .before .before .before .before .before .before .trim .result .place .0 + c .before .before .before .before .before .before .before .before .trim .result .count) x) (c .before .before .ir2 .given .1) (c .before .before .before .before .attr-ir .ensures .1 .1)) .1 .within); second-count = omega (arith, c .before .before .before .before .before .before .before .before .before .before .before .before .before .pre .1 .1 .0, c .before .before .before .before .before .before .before .before .before .before .before .before .before .pre .1 .1 .1, c .before .before .before .before .before .before .before .before .before .before .before .before .before .pre .1 .1 .2, c .before .before .before .before .before .before .before .before .before .before .before .before .before .pre .1 .0 .few, c .before .before .before .before .before .before .before .before .trim .ensures .1 .within, c .before .before .before .before .before .before .before .before .trim .ensures .1 .few, (subst (λ (x : AttrIr). Bounded (c .before .before .before .before .before .before .before .before .before .before .before .before .before .args .kinds .now) (c .before .before .before .before .before .before .before .before .trim .result .place .0) (c .before .before .before .before .before .before .before .before .trim .result .place .0 + c .before .before .before .before .before .before .before .before .trim .result .count) x) (c .before .before .ir2 .given .1) (c .before .before .before .before .attr-ir .ensures .1 .1)) .1 .within) })
 
 -- src/lib.rt:83:25
 parse-attr-enum-known-ir-3 : (t : ℕ) → parse-attr-lts.Need-enum-known-ir-3 (
@@ -600,8 +631,10 @@ parse-attr-enum-known-ir-3 : (t : ℕ) → parse-attr-lts.Need-enum-known-ir-3 (
   attr-ir-reads.Learnt,
   cut-positional-below t,
   cut-positional.Post,
-  push-attr-groups-reads.Asked,
-  push-attr-groups-reads.Learnt,
+  put-named-reads.Asked,
+  put-named-reads.Learnt,
+  put-groups-reads.Asked,
+  put-groups-reads.Learnt,
   put-id-reads.Asked,
   put-id-reads.Learnt,
   push-shorthand-reads.Asked,
@@ -609,8 +642,8 @@ parse-attr-enum-known-ir-3 : (t : ℕ) → parse-attr-lts.Need-enum-known-ir-3 (
 ) (parse-attr-at t) parse-attr.Post
 parse-attr-enum-known-ir-3 t c = c .match .keys3
 
--- src/lib.rt:89:13
-parse-attr-put-one-requires-4 : (t : ℕ) → parse-attr-lts.Need-put-one-requires-4 (
+-- src/lib.rt:83:42
+parse-attr-put-named-requires-2 : (t : ℕ) → parse-attr-lts.Need-put-named-requires-2 (
   trim-reads.Asked,
   trim-reads.Learnt,
   one-run-reads.Asked,
@@ -621,16 +654,18 @@ parse-attr-put-one-requires-4 : (t : ℕ) → parse-attr-lts.Need-put-one-requir
   attr-ir-reads.Learnt,
   cut-positional-below t,
   cut-positional.Post,
-  push-attr-groups-reads.Asked,
-  push-attr-groups-reads.Learnt,
+  put-named-reads.Asked,
+  put-named-reads.Learnt,
+  put-groups-reads.Asked,
+  put-groups-reads.Learnt,
   put-id-reads.Asked,
   put-id-reads.Learnt,
   push-shorthand-reads.Asked,
   push-shorthand-reads.Learnt,
 ) (parse-attr-at t) parse-attr.Post
-parse-attr-put-one-requires-4 t c κs = (omega (arith, c .before .before .before .before .before .before .before .before .before .before .before .before .before .pre .1 .1 .0, c .before .before .before .before .before .before .before .before .before .before .before .before .before .pre .1 .1 .1, c .before .before .before .before .before .before .before .before .before .before .before .before .before .pre .1 .1 .2, c .before .before .before .before .before .before .before .before .before .before .before .before .before .pre .1 .0 .few, c .before .before .before .before .before .before .before .before .trim .ensures .1 .within, c .before .before .before .before .before .before .before .before .trim .ensures .1 .few), record { first-place = omega (arith, c .before .before .before .before .before .before .before .before .before .before .before .before .before .pre .1 .1 .0, c .before .before .before .before .before .before .before .before .before .before .before .before .before .pre .1 .1 .1, c .before .before .before .before .before .before .before .before .before .before .before .before .before .pre .1 .1 .2, c .before .before .before .before .before .before .before .before .before .before .before .before .before .pre .1 .0 .few, c .before .before .before .before .before .before .before .before .trim .ensures .1 .within, c .before .before .before .before .before .before .before .before .trim .ensures .1 .few, (subst (λ (x : AttrIr). Bounded (c .before .before .before .before .before .before .before .before .before .before .before .before .before .args .kinds .now) (c .before .before .before .before .before .before .before .before .trim .result .place .0) (c .before .before .before .before .before .before .before .before .trim .result .place .0 + c .before .before .before .before .before .before .before .before .trim .result .count) x) (c .before .before .ir3 .given .1) (c .before .before .before .before .attr-ir .ensures .1 .1)) .0 .within); first-count = omega (arith, c .before .before .before .before .before .before .before .before .before .before .before .before .before .pre .1 .1 .0, c .before .before .before .before .before .before .before .before .before .before .before .before .before .pre .1 .1 .1, c .before .before .before .before .before .before .before .before .before .before .before .before .before .pre .1 .1 .2, c .before .before .before .before .before .before .before .before .before .before .before .before .before .pre .1 .0 .few, c .before .before .before .before .before .before .before .before .trim .ensures .1 .within, c .before .before .before .before .before .before .before .before .trim .ensures .1 .few, (subst (λ (x : AttrIr). Bounded (c .before .before .before .before .before .before .before .before .before .before .before .before .before .args .kinds .now) (c .before .before .before .before .before .before .before .before .trim .result .place .0) (c .before .before .before .before .before .before .before .before .trim .result .place .0 + c .before .before .before .before .before .before .before .before .trim .result .count) x) (c .before .before .ir3 .given .1) (c .before .before .before .before .attr-ir .ensures .1 .1)) .0 .within); second-place = omega (arith, c .before .before .before .before .before .before .before .before .before .before .before .before .before .pre .1 .1 .0, c .before .before .before .before .before .before .before .before .before .before .before .before .before .pre .1 .1 .1, c .before .before .before .before .before .before .before .before .before .before .before .before .before .pre .1 .1 .2, c .before .before .before .before .before .before .before .before .before .before .before .before .before .pre .1 .0 .few, c .before .before .before .before .before .before .before .before .trim .ensures .1 .within, c .before .before .before .before .before .before .before .before .trim .ensures .1 .few, (subst (λ (x : AttrIr). Bounded (c .before .before .before .before .before .before .before .before .before .before .before .before .before .args .kinds .now) (c .before .before .before .before .before .before .before .before .trim .result .place .0) (c .before .before .before .before .before .before .before .before .trim .result .place .0 + c .before .before .before .before .before .before .before .before .trim .result .count) x) (c .before .before .ir3 .given .1) (c .before .before .before .before .attr-ir .ensures .1 .1)) .1 .within); second-count = omega (arith, c .before .before .before .before .before .before .before .before .before .before .before .before .before .pre .1 .1 .0, c .before .before .before .before .before .before .before .before .before .before .before .before .before .pre .1 .1 .1, c .before .before .before .before .before .before .before .before .before .before .before .before .before .pre .1 .1 .2, c .before .before .before .before .before .before .before .before .before .before .before .before .before .pre .1 .0 .few, c .before .before .before .before .before .before .before .before .trim .ensures .1 .within, c .before .before .before .before .before .before .before .before .trim .ensures .1 .few, (subst (λ (x : AttrIr). Bounded (c .before .before .before .before .before .before .before .before .before .before .before .before .before .args .kinds .now) (c .before .before .before .before .before .before .before .before .trim .result .place .0) (c .before .before .before .before .before .before .before .before .trim .result .place .0 + c .before .before .before .before .before .before .before .before .trim .result .count) x) (c .before .before .ir3 .given .1) (c .before .before .before .before .attr-ir .ensures .1 .1)) .1 .within) })
+parse-attr-put-named-requires-2 t c κs = (omega (arith, c .before .before .before .before .before .before .before .before .before .before .before .before .before .pre .1 .1 .0, c .before .before .before .before .before .before .before .before .before .before .before .before .before .pre .1 .1 .1, c .before .before .before .before .before .before .before .before .before .before .before .before .before .pre .1 .1 .2, c .before .before .before .before .before .before .before .before .before .before .before .before .before .pre .1 .0 .few, c .before .before .before .before .before .before .before .before .trim .ensures .1 .within, c .before .before .before .before .before .before .before .before .trim .ensures .1 .few), record { first-place = omega (arith, c .before .before .before .before .before .before .before .before .before .before .before .before .before .pre .1 .1 .0, c .before .before .before .before .before .before .before .before .before .before .before .before .before .pre .1 .1 .1, c .before .before .before .before .before .before .before .before .before .before .before .before .before .pre .1 .1 .2, c .before .before .before .before .before .before .before .before .before .before .before .before .before .pre .1 .0 .few, c .before .before .before .before .before .before .before .before .trim .ensures .1 .within, c .before .before .before .before .before .before .before .before .trim .ensures .1 .few, (subst (λ (x : AttrIr). Bounded (c .before .before .before .before .before .before .before .before .before .before .before .before .before .args .kinds .now) (c .before .before .before .before .before .before .before .before .trim .result .place .0) (c .before .before .before .before .before .before .before .before .trim .result .place .0 + c .before .before .before .before .before .before .before .before .trim .result .count) x) (c .before .before .ir3 .given .1) (c .before .before .before .before .attr-ir .ensures .1 .1)) .0 .within); first-count = omega (arith, c .before .before .before .before .before .before .before .before .before .before .before .before .before .pre .1 .1 .0, c .before .before .before .before .before .before .before .before .before .before .before .before .before .pre .1 .1 .1, c .before .before .before .before .before .before .before .before .before .before .before .before .before .pre .1 .1 .2, c .before .before .before .before .before .before .before .before .before .before .before .before .before .pre .1 .0 .few, c .before .before .before .before .before .before .before .before .trim .ensures .1 .within, c .before .before .before .before .before .before .before .before .trim .ensures .1 .few, (subst (λ (x : AttrIr). Bounded (c .before .before .before .before .before .before .before .before .before .before .before .before .before .args .kinds .now) (c .before .before .before .before .before .before .before .before .trim .result .place .0) (c .before .before .before .before .before .before .before .before .trim .result .place .0 + c .before .before .before .before .before .before .before .before .trim .result .count) x) (c .before .before .ir3 .given .1) (c .before .before .before .before .attr-ir .ensures .1 .1)) .0 .within); second-place = omega (arith, c .before .before .before .before .before .before .before .before .before .before .before .before .before .pre .1 .1 .0, c .before .before .before .before .before .before .before .before .before .before .before .before .before .pre .1 .1 .1, c .before .before .before .before .before .before .before .before .before .before .before .before .before .pre .1 .1 .2, c .before .before .before .before .before .before .before .before .before .before .before .before .before .pre .1 .0 .few, c .before .before .before .before .before .before .before .before .trim .ensures .1 .within, c .before .before .before .before .before .before .before .before .trim .ensures .1 .few, (subst (λ (x : AttrIr). Bounded (c .before .before .before .before .before .before .before .before .before .before .before .before .before .args .kinds .now) (c .before .before .before .before .before .before .before .before .trim .result .place .0) (c .before .before .before .before .before .before .before .before .trim .result .place .0 + c .before .before .before .before .before .before .before .before .trim .result .count) x) (c .before .before .ir3 .given .1) (c .before .before .before .before .attr-ir .ensures .1 .1)) .1 .within); second-count = omega (arith, c .before .before .before .before .before .before .before .before .before .before .before .before .before .pre .1 .1 .0, c .before .before .before .before .before .before .before .before .before .before .before .before .before .pre .1 .1 .1, c .before .before .before .before .before .before .before .before .before .before .before .before .before .pre .1 .1 .2, c .before .before .before .before .before .before .before .before .before .before .before .before .before .pre .1 .0 .few, c .before .before .before .before .before .before .before .before .trim .ensures .1 .within, c .before .before .before .before .before .before .before .before .trim .ensures .1 .few, (subst (λ (x : AttrIr). Bounded (c .before .before .before .before .before .before .before .before .before .before .before .before .before .args .kinds .now) (c .before .before .before .before .before .before .before .before .trim .result .place .0) (c .before .before .before .before .before .before .before .before .trim .result .place .0 + c .before .before .before .before .before .before .before .before .trim .result .count) x) (c .before .before .ir3 .given .1) (c .before .before .before .before .attr-ir .ensures .1 .1)) .1 .within) })
 
--- src/lib.rt:91:25
+-- src/lib.rt:84:25
 parse-attr-enum-known-ir-4 : (t : ℕ) → parse-attr-lts.Need-enum-known-ir-4 (
   trim-reads.Asked,
   trim-reads.Learnt,
@@ -642,8 +677,10 @@ parse-attr-enum-known-ir-4 : (t : ℕ) → parse-attr-lts.Need-enum-known-ir-4 (
   attr-ir-reads.Learnt,
   cut-positional-below t,
   cut-positional.Post,
-  push-attr-groups-reads.Asked,
-  push-attr-groups-reads.Learnt,
+  put-named-reads.Asked,
+  put-named-reads.Learnt,
+  put-groups-reads.Asked,
+  put-groups-reads.Learnt,
   put-id-reads.Asked,
   put-id-reads.Learnt,
   push-shorthand-reads.Asked,
@@ -651,8 +688,8 @@ parse-attr-enum-known-ir-4 : (t : ℕ) → parse-attr-lts.Need-enum-known-ir-4 (
 ) (parse-attr-at t) parse-attr.Post
 parse-attr-enum-known-ir-4 t c = c .match .keys4
 
--- src/lib.rt:93:34
-parse-attr-add-t49 : (t : ℕ) → parse-attr-lts.Need-add-t49 (
+-- src/lib.rt:84:33
+parse-attr-put-groups-requires : (t : ℕ) → parse-attr-lts.Need-put-groups-requires (
   trim-reads.Asked,
   trim-reads.Learnt,
   one-run-reads.Asked,
@@ -663,37 +700,18 @@ parse-attr-add-t49 : (t : ℕ) → parse-attr-lts.Need-add-t49 (
   attr-ir-reads.Learnt,
   cut-positional-below t,
   cut-positional.Post,
-  push-attr-groups-reads.Asked,
-  push-attr-groups-reads.Learnt,
+  put-named-reads.Asked,
+  put-named-reads.Learnt,
+  put-groups-reads.Asked,
+  put-groups-reads.Learnt,
   put-id-reads.Asked,
   put-id-reads.Learnt,
   push-shorthand-reads.Asked,
   push-shorthand-reads.Learnt,
 ) (parse-attr-at t) parse-attr.Post
-parse-attr-add-t49 t c = omega (arith, c .before .before .before .before .before .before .before .before .before .before .before .before .before .before .before .pre .1 .1 .0, c .before .before .before .before .before .before .before .before .before .before .before .before .before .before .before .pre .1 .1 .1, c .before .before .before .before .before .before .before .before .before .before .before .before .before .before .before .pre .1 .1 .2, c .before .before .before .before .before .before .before .before .before .before .before .before .before .before .before .pre .1 .0 .few, c .before .before .before .before .before .before .before .before .before .before .trim .ensures .1 .within, c .before .before .before .before .before .before .before .before .before .before .trim .ensures .1 .few, (subst (λ (x : AttrIr). Bounded (c .before .before .before .before .before .before .before .before .before .before .before .before .before .before .before .args .kinds .now) (c .before .before .before .before .before .before .before .before .before .before .trim .result .place .0) (c .before .before .before .before .before .before .before .before .before .before .trim .result .place .0 + c .before .before .before .before .before .before .before .before .before .before .trim .result .count) x) (c .before .before .before .before .ir4 .given .1) (c .before .before .before .before .before .before .attr-ir .ensures .1 .1)) .within)
+parse-attr-put-groups-requires t c κs = ((omega (arith, c .before .before .before .before .before .before .before .before .before .before .before .before .before .pre .1 .1 .0, c .before .before .before .before .before .before .before .before .before .before .before .before .before .pre .1 .1 .1, c .before .before .before .before .before .before .before .before .before .before .before .before .before .pre .1 .1 .2, c .before .before .before .before .before .before .before .before .before .before .before .before .before .pre .1 .0 .few, c .before .before .before .before .before .before .before .before .trim .ensures .1 .within, c .before .before .before .before .before .before .before .before .trim .ensures .1 .few, (subst (λ (x : AttrIr). Bounded (c .before .before .before .before .before .before .before .before .before .before .before .before .before .args .kinds .now) (c .before .before .before .before .before .before .before .before .trim .result .place .0) (c .before .before .before .before .before .before .before .before .trim .result .place .0 + c .before .before .before .before .before .before .before .before .trim .result .count) x) (c .before .before .ir4 .given .1) (c .before .before .before .before .attr-ir .ensures .1 .1)) .within), c .before .before .before .before .before .before .before .before .before .before .before .before .before .pre .1 .0 .few, λ e. omega (arith, e)), omega (arith, c .before .before .before .before .before .before .before .before .before .before .before .before .before .pre .1 .1 .0, c .before .before .before .before .before .before .before .before .before .before .before .before .before .pre .1 .1 .1, c .before .before .before .before .before .before .before .before .before .before .before .before .before .pre .1 .1 .2, c .before .before .before .before .before .before .before .before .before .before .before .before .before .pre .1 .0 .few, c .before .before .before .before .before .before .before .before .trim .ensures .1 .within, c .before .before .before .before .before .before .before .before .trim .ensures .1 .few, (subst (λ (x : AttrIr). Bounded (c .before .before .before .before .before .before .before .before .before .before .before .before .before .args .kinds .now) (c .before .before .before .before .before .before .before .before .trim .result .place .0) (c .before .before .before .before .before .before .before .before .trim .result .place .0 + c .before .before .before .before .before .before .before .before .trim .result .count) x) (c .before .before .ir4 .given .1) (c .before .before .before .before .attr-ir .ensures .1 .1)) .few))
 
--- src/lib.rt:95:23
-parse-attr-push-attr-groups-requires : (t : ℕ) → parse-attr-lts.Need-push-attr-groups-requires (
-  trim-reads.Asked,
-  trim-reads.Learnt,
-  one-run-reads.Asked,
-  one-run-reads.Learnt,
-  put-one-reads.Asked,
-  put-one-reads.Learnt,
-  attr-ir-reads.Asked,
-  attr-ir-reads.Learnt,
-  cut-positional-below t,
-  cut-positional.Post,
-  push-attr-groups-reads.Asked,
-  push-attr-groups-reads.Learnt,
-  put-id-reads.Asked,
-  put-id-reads.Learnt,
-  push-shorthand-reads.Asked,
-  push-shorthand-reads.Learnt,
-) (parse-attr-at t) parse-attr.Post
-parse-attr-push-attr-groups-requires t c κs = ((omega arith, omega (arith, c .before .before .before .before .before .before .before .before .before .before .before .before .before .before .before .before .pre .1 .1 .0, c .before .before .before .before .before .before .before .before .before .before .before .before .before .before .before .before .pre .1 .1 .1, c .before .before .before .before .before .before .before .before .before .before .before .before .before .before .before .before .pre .1 .1 .2, c .before .before .before .before .before .before .before .before .before .before .before .before .before .before .before .before .pre .1 .0 .few, c .before .before .before .before .before .before .before .before .before .before .before .trim .ensures .1 .within, c .before .before .before .before .before .before .before .before .before .before .before .trim .ensures .1 .few, (subst (λ (x : AttrIr). Bounded (c .before .before .before .before .before .before .before .before .before .before .before .before .before .before .before .before .args .kinds .now) (c .before .before .before .before .before .before .before .before .before .before .before .trim .result .place .0) (c .before .before .before .before .before .before .before .before .before .before .before .trim .result .place .0 + c .before .before .before .before .before .before .before .before .before .before .before .trim .result .count) x) (c .before .before .before .before .before .ir4 .given .1) (c .before .before .before .before .before .before .before .attr-ir .ensures .1 .1)) .within), c .before .before .before .before .before .before .before .before .before .before .before .before .before .before .before .before .pre .1 .0 .few, λ e. omega (arith, e)), omega (arith, c .before .before .before .before .before .before .before .before .before .before .before .before .before .before .before .before .pre .1 .1 .0, c .before .before .before .before .before .before .before .before .before .before .before .before .before .before .before .before .pre .1 .1 .1, c .before .before .before .before .before .before .before .before .before .before .before .before .before .before .before .before .pre .1 .1 .2, c .before .before .before .before .before .before .before .before .before .before .before .before .before .before .before .before .pre .1 .0 .few, c .before .before .before .before .before .before .before .before .before .before .before .trim .ensures .1 .within, c .before .before .before .before .before .before .before .before .before .before .before .trim .ensures .1 .few, (subst (λ (x : AttrIr). Bounded (c .before .before .before .before .before .before .before .before .before .before .before .before .before .before .before .before .args .kinds .now) (c .before .before .before .before .before .before .before .before .before .before .before .trim .result .place .0) (c .before .before .before .before .before .before .before .before .before .before .before .trim .result .place .0 + c .before .before .before .before .before .before .before .before .before .before .before .trim .result .count) x) (c .before .before .before .before .before .ir4 .given .1) (c .before .before .before .before .before .before .before .attr-ir .ensures .1 .1)) .few))
-
--- src/lib.rt:99:23
+-- src/lib.rt:85:23
 parse-attr-enum-known-ir-5 : (t : ℕ) → parse-attr-lts.Need-enum-known-ir-5 (
   trim-reads.Asked,
   trim-reads.Learnt,
@@ -705,8 +723,10 @@ parse-attr-enum-known-ir-5 : (t : ℕ) → parse-attr-lts.Need-enum-known-ir-5 (
   attr-ir-reads.Learnt,
   cut-positional-below t,
   cut-positional.Post,
-  push-attr-groups-reads.Asked,
-  push-attr-groups-reads.Learnt,
+  put-named-reads.Asked,
+  put-named-reads.Learnt,
+  put-groups-reads.Asked,
+  put-groups-reads.Learnt,
   put-id-reads.Asked,
   put-id-reads.Learnt,
   push-shorthand-reads.Asked,
@@ -714,8 +734,8 @@ parse-attr-enum-known-ir-5 : (t : ℕ) → parse-attr-lts.Need-enum-known-ir-5 (
 ) (parse-attr-at t) parse-attr.Post
 parse-attr-enum-known-ir-5 t c = c .match .keys5
 
--- src/lib.rt:101:34
-parse-attr-add-t52 : (t : ℕ) → parse-attr-lts.Need-add-t52 (
+-- src/lib.rt:85:31
+parse-attr-put-groups-requires-2 : (t : ℕ) → parse-attr-lts.Need-put-groups-requires-2 (
   trim-reads.Asked,
   trim-reads.Learnt,
   one-run-reads.Asked,
@@ -726,37 +746,18 @@ parse-attr-add-t52 : (t : ℕ) → parse-attr-lts.Need-add-t52 (
   attr-ir-reads.Learnt,
   cut-positional-below t,
   cut-positional.Post,
-  push-attr-groups-reads.Asked,
-  push-attr-groups-reads.Learnt,
+  put-named-reads.Asked,
+  put-named-reads.Learnt,
+  put-groups-reads.Asked,
+  put-groups-reads.Learnt,
   put-id-reads.Asked,
   put-id-reads.Learnt,
   push-shorthand-reads.Asked,
   push-shorthand-reads.Learnt,
 ) (parse-attr-at t) parse-attr.Post
-parse-attr-add-t52 t c = omega (arith, c .before .before .before .before .before .before .before .before .before .before .before .before .before .before .before .pre .1 .1 .0, c .before .before .before .before .before .before .before .before .before .before .before .before .before .before .before .pre .1 .1 .1, c .before .before .before .before .before .before .before .before .before .before .before .before .before .before .before .pre .1 .1 .2, c .before .before .before .before .before .before .before .before .before .before .before .before .before .before .before .pre .1 .0 .few, c .before .before .before .before .before .before .before .before .before .before .trim .ensures .1 .within, c .before .before .before .before .before .before .before .before .before .before .trim .ensures .1 .few, (subst (λ (x : AttrIr). Bounded (c .before .before .before .before .before .before .before .before .before .before .before .before .before .before .before .args .kinds .now) (c .before .before .before .before .before .before .before .before .before .before .trim .result .place .0) (c .before .before .before .before .before .before .before .before .before .before .trim .result .place .0 + c .before .before .before .before .before .before .before .before .before .before .trim .result .count) x) (c .before .before .before .before .ir5 .given .1) (c .before .before .before .before .before .before .attr-ir .ensures .1 .1)) .within)
+parse-attr-put-groups-requires-2 t c κs = ((omega (arith, c .before .before .before .before .before .before .before .before .before .before .before .before .before .pre .1 .1 .0, c .before .before .before .before .before .before .before .before .before .before .before .before .before .pre .1 .1 .1, c .before .before .before .before .before .before .before .before .before .before .before .before .before .pre .1 .1 .2, c .before .before .before .before .before .before .before .before .before .before .before .before .before .pre .1 .0 .few, c .before .before .before .before .before .before .before .before .trim .ensures .1 .within, c .before .before .before .before .before .before .before .before .trim .ensures .1 .few, (subst (λ (x : AttrIr). Bounded (c .before .before .before .before .before .before .before .before .before .before .before .before .before .args .kinds .now) (c .before .before .before .before .before .before .before .before .trim .result .place .0) (c .before .before .before .before .before .before .before .before .trim .result .place .0 + c .before .before .before .before .before .before .before .before .trim .result .count) x) (c .before .before .ir5 .given .1) (c .before .before .before .before .attr-ir .ensures .1 .1)) .within), c .before .before .before .before .before .before .before .before .before .before .before .before .before .pre .1 .0 .few, λ e. omega (arith, e)), omega (arith, c .before .before .before .before .before .before .before .before .before .before .before .before .before .pre .1 .1 .0, c .before .before .before .before .before .before .before .before .before .before .before .before .before .pre .1 .1 .1, c .before .before .before .before .before .before .before .before .before .before .before .before .before .pre .1 .1 .2, c .before .before .before .before .before .before .before .before .before .before .before .before .before .pre .1 .0 .few, c .before .before .before .before .before .before .before .before .trim .ensures .1 .within, c .before .before .before .before .before .before .before .before .trim .ensures .1 .few, (subst (λ (x : AttrIr). Bounded (c .before .before .before .before .before .before .before .before .before .before .before .before .before .args .kinds .now) (c .before .before .before .before .before .before .before .before .trim .result .place .0) (c .before .before .before .before .before .before .before .before .trim .result .place .0 + c .before .before .before .before .before .before .before .before .trim .result .count) x) (c .before .before .ir5 .given .1) (c .before .before .before .before .attr-ir .ensures .1 .1)) .few))
 
--- src/lib.rt:103:23
-parse-attr-push-attr-groups-requires-2 : (t : ℕ) → parse-attr-lts.Need-push-attr-groups-requires-2 (
-  trim-reads.Asked,
-  trim-reads.Learnt,
-  one-run-reads.Asked,
-  one-run-reads.Learnt,
-  put-one-reads.Asked,
-  put-one-reads.Learnt,
-  attr-ir-reads.Asked,
-  attr-ir-reads.Learnt,
-  cut-positional-below t,
-  cut-positional.Post,
-  push-attr-groups-reads.Asked,
-  push-attr-groups-reads.Learnt,
-  put-id-reads.Asked,
-  put-id-reads.Learnt,
-  push-shorthand-reads.Asked,
-  push-shorthand-reads.Learnt,
-) (parse-attr-at t) parse-attr.Post
-parse-attr-push-attr-groups-requires-2 t c κs = ((omega arith, omega (arith, c .before .before .before .before .before .before .before .before .before .before .before .before .before .before .before .before .pre .1 .1 .0, c .before .before .before .before .before .before .before .before .before .before .before .before .before .before .before .before .pre .1 .1 .1, c .before .before .before .before .before .before .before .before .before .before .before .before .before .before .before .before .pre .1 .1 .2, c .before .before .before .before .before .before .before .before .before .before .before .before .before .before .before .before .pre .1 .0 .few, c .before .before .before .before .before .before .before .before .before .before .before .trim .ensures .1 .within, c .before .before .before .before .before .before .before .before .before .before .before .trim .ensures .1 .few, (subst (λ (x : AttrIr). Bounded (c .before .before .before .before .before .before .before .before .before .before .before .before .before .before .before .before .args .kinds .now) (c .before .before .before .before .before .before .before .before .before .before .before .trim .result .place .0) (c .before .before .before .before .before .before .before .before .before .before .before .trim .result .place .0 + c .before .before .before .before .before .before .before .before .before .before .before .trim .result .count) x) (c .before .before .before .before .before .ir5 .given .1) (c .before .before .before .before .before .before .before .attr-ir .ensures .1 .1)) .within), c .before .before .before .before .before .before .before .before .before .before .before .before .before .before .before .before .pre .1 .0 .few, λ e. omega (arith, e)), omega (arith, c .before .before .before .before .before .before .before .before .before .before .before .before .before .before .before .before .pre .1 .1 .0, c .before .before .before .before .before .before .before .before .before .before .before .before .before .before .before .before .pre .1 .1 .1, c .before .before .before .before .before .before .before .before .before .before .before .before .before .before .before .before .pre .1 .1 .2, c .before .before .before .before .before .before .before .before .before .before .before .before .before .before .before .before .pre .1 .0 .few, c .before .before .before .before .before .before .before .before .before .before .before .trim .ensures .1 .within, c .before .before .before .before .before .before .before .before .before .before .before .trim .ensures .1 .few, (subst (λ (x : AttrIr). Bounded (c .before .before .before .before .before .before .before .before .before .before .before .before .before .before .before .before .args .kinds .now) (c .before .before .before .before .before .before .before .before .before .before .before .trim .result .place .0) (c .before .before .before .before .before .before .before .before .before .before .before .trim .result .place .0 + c .before .before .before .before .before .before .before .before .before .before .before .trim .result .count) x) (c .before .before .before .before .before .ir5 .given .1) (c .before .before .before .before .before .before .before .attr-ir .ensures .1 .1)) .few))
-
--- src/lib.rt:107:20
+-- src/lib.rt:86:20
 parse-attr-enum-known-ir-6 : (t : ℕ) → parse-attr-lts.Need-enum-known-ir-6 (
   trim-reads.Asked,
   trim-reads.Learnt,
@@ -768,8 +769,10 @@ parse-attr-enum-known-ir-6 : (t : ℕ) → parse-attr-lts.Need-enum-known-ir-6 (
   attr-ir-reads.Learnt,
   cut-positional-below t,
   cut-positional.Post,
-  push-attr-groups-reads.Asked,
-  push-attr-groups-reads.Learnt,
+  put-named-reads.Asked,
+  put-named-reads.Learnt,
+  put-groups-reads.Asked,
+  put-groups-reads.Learnt,
   put-id-reads.Asked,
   put-id-reads.Learnt,
   push-shorthand-reads.Asked,
@@ -777,7 +780,7 @@ parse-attr-enum-known-ir-6 : (t : ℕ) → parse-attr-lts.Need-enum-known-ir-6 (
 ) (parse-attr-at t) parse-attr.Post
 parse-attr-enum-known-ir-6 t c = c .match .keys6
 
--- src/lib.rt:107:28
+-- src/lib.rt:86:28
 parse-attr-put-id-requires : (t : ℕ) → parse-attr-lts.Need-put-id-requires (
   trim-reads.Asked,
   trim-reads.Learnt,
@@ -789,8 +792,10 @@ parse-attr-put-id-requires : (t : ℕ) → parse-attr-lts.Need-put-id-requires (
   attr-ir-reads.Learnt,
   cut-positional-below t,
   cut-positional.Post,
-  push-attr-groups-reads.Asked,
-  push-attr-groups-reads.Learnt,
+  put-named-reads.Asked,
+  put-named-reads.Learnt,
+  put-groups-reads.Asked,
+  put-groups-reads.Learnt,
   put-id-reads.Asked,
   put-id-reads.Learnt,
   push-shorthand-reads.Asked,
@@ -798,7 +803,7 @@ parse-attr-put-id-requires : (t : ℕ) → parse-attr-lts.Need-put-id-requires (
 ) (parse-attr-at t) parse-attr.Post
 parse-attr-put-id-requires t c κs = (omega (arith, c .before .before .before .before .before .before .before .before .before .before .before .before .before .pre .1 .1 .0, c .before .before .before .before .before .before .before .before .before .before .before .before .before .pre .1 .1 .1, c .before .before .before .before .before .before .before .before .before .before .before .before .before .pre .1 .1 .2, c .before .before .before .before .before .before .before .before .before .before .before .before .before .pre .1 .0 .few, c .before .before .before .before .before .before .before .before .trim .ensures .1 .within, c .before .before .before .before .before .before .before .before .trim .ensures .1 .few), omega (arith, c .before .before .before .before .before .before .before .before .before .before .before .before .before .pre .1 .1 .0, c .before .before .before .before .before .before .before .before .before .before .before .before .before .pre .1 .1 .1, c .before .before .before .before .before .before .before .before .before .before .before .before .before .pre .1 .1 .2, c .before .before .before .before .before .before .before .before .before .before .before .before .before .pre .1 .0 .few, c .before .before .before .before .before .before .before .before .trim .ensures .1 .within, c .before .before .before .before .before .before .before .before .trim .ensures .1 .few, (subst (λ (x : AttrIr). Bounded (c .before .before .before .before .before .before .before .before .before .before .before .before .before .args .kinds .now) (c .before .before .before .before .before .before .before .before .trim .result .place .0) (c .before .before .before .before .before .before .before .before .trim .result .place .0 + c .before .before .before .before .before .before .before .before .trim .result .count) x) (c .before .before .ir6 .given .1) (c .before .before .before .before .attr-ir .ensures .1 .1)) .within), omega (arith, c .before .before .before .before .before .before .before .before .before .before .before .before .before .pre .1 .1 .0, c .before .before .before .before .before .before .before .before .before .before .before .before .before .pre .1 .1 .1, c .before .before .before .before .before .before .before .before .before .before .before .before .before .pre .1 .1 .2, c .before .before .before .before .before .before .before .before .before .before .before .before .before .pre .1 .0 .few, c .before .before .before .before .before .before .before .before .trim .ensures .1 .within, c .before .before .before .before .before .before .before .before .trim .ensures .1 .few, (subst (λ (x : AttrIr). Bounded (c .before .before .before .before .before .before .before .before .before .before .before .before .before .args .kinds .now) (c .before .before .before .before .before .before .before .before .trim .result .place .0) (c .before .before .before .before .before .before .before .before .trim .result .place .0 + c .before .before .before .before .before .before .before .before .trim .result .count) x) (c .before .before .ir6 .given .1) (c .before .before .before .before .attr-ir .ensures .1 .1)) .within))
 
--- src/lib.rt:108:27
+-- src/lib.rt:87:27
 parse-attr-enum-known-ir-7 : (t : ℕ) → parse-attr-lts.Need-enum-known-ir-7 (
   trim-reads.Asked,
   trim-reads.Learnt,
@@ -810,8 +815,10 @@ parse-attr-enum-known-ir-7 : (t : ℕ) → parse-attr-lts.Need-enum-known-ir-7 (
   attr-ir-reads.Learnt,
   cut-positional-below t,
   cut-positional.Post,
-  push-attr-groups-reads.Asked,
-  push-attr-groups-reads.Learnt,
+  put-named-reads.Asked,
+  put-named-reads.Learnt,
+  put-groups-reads.Asked,
+  put-groups-reads.Learnt,
   put-id-reads.Asked,
   put-id-reads.Learnt,
   push-shorthand-reads.Asked,
@@ -819,8 +826,8 @@ parse-attr-enum-known-ir-7 : (t : ℕ) → parse-attr-lts.Need-enum-known-ir-7 (
 ) (parse-attr-at t) parse-attr.Post
 parse-attr-enum-known-ir-7 t c = c .match .keys7
 
--- src/lib.rt:110:34
-parse-attr-add-t57 : (t : ℕ) → parse-attr-lts.Need-add-t57 (
+-- src/lib.rt:89:34
+parse-attr-add-t49 : (t : ℕ) → parse-attr-lts.Need-add-t49 (
   trim-reads.Asked,
   trim-reads.Learnt,
   one-run-reads.Asked,
@@ -831,16 +838,18 @@ parse-attr-add-t57 : (t : ℕ) → parse-attr-lts.Need-add-t57 (
   attr-ir-reads.Learnt,
   cut-positional-below t,
   cut-positional.Post,
-  push-attr-groups-reads.Asked,
-  push-attr-groups-reads.Learnt,
+  put-named-reads.Asked,
+  put-named-reads.Learnt,
+  put-groups-reads.Asked,
+  put-groups-reads.Learnt,
   put-id-reads.Asked,
   put-id-reads.Learnt,
   push-shorthand-reads.Asked,
   push-shorthand-reads.Learnt,
 ) (parse-attr-at t) parse-attr.Post
-parse-attr-add-t57 t c = omega (arith, c .before .before .before .before .before .before .before .before .before .before .before .before .before .before .before .pre .1 .1 .0, c .before .before .before .before .before .before .before .before .before .before .before .before .before .before .before .pre .1 .1 .1, c .before .before .before .before .before .before .before .before .before .before .before .before .before .before .before .pre .1 .1 .2, c .before .before .before .before .before .before .before .before .before .before .before .before .before .before .before .pre .1 .0 .few, c .before .before .before .before .before .before .before .before .before .before .trim .ensures .1 .within, c .before .before .before .before .before .before .before .before .before .before .trim .ensures .1 .few, (subst (λ (x : AttrIr). Bounded (c .before .before .before .before .before .before .before .before .before .before .before .before .before .before .before .args .kinds .now) (c .before .before .before .before .before .before .before .before .before .before .trim .result .place .0) (c .before .before .before .before .before .before .before .before .before .before .trim .result .place .0 + c .before .before .before .before .before .before .before .before .before .before .trim .result .count) x) (c .before .before .before .before .ir7 .given .1) (c .before .before .before .before .before .before .attr-ir .ensures .1 .1)) .within)
+parse-attr-add-t49 t c = omega (arith, c .before .before .before .before .before .before .before .before .before .before .before .before .before .before .before .pre .1 .1 .0, c .before .before .before .before .before .before .before .before .before .before .before .before .before .before .before .pre .1 .1 .1, c .before .before .before .before .before .before .before .before .before .before .before .before .before .before .before .pre .1 .1 .2, c .before .before .before .before .before .before .before .before .before .before .before .before .before .before .before .pre .1 .0 .few, c .before .before .before .before .before .before .before .before .before .before .trim .ensures .1 .within, c .before .before .before .before .before .before .before .before .before .before .trim .ensures .1 .few, (subst (λ (x : AttrIr). Bounded (c .before .before .before .before .before .before .before .before .before .before .before .before .before .before .before .args .kinds .now) (c .before .before .before .before .before .before .before .before .before .before .trim .result .place .0) (c .before .before .before .before .before .before .before .before .before .before .trim .result .place .0 + c .before .before .before .before .before .before .before .before .before .before .trim .result .count) x) (c .before .before .before .before .ir7 .given .1) (c .before .before .before .before .before .before .attr-ir .ensures .1 .1)) .within)
 
--- src/lib.rt:111:13
+-- src/lib.rt:90:13
 parse-attr-push-shorthand-requires : (t : ℕ) → parse-attr-lts.Need-push-shorthand-requires (
   trim-reads.Asked,
   trim-reads.Learnt,
@@ -852,8 +861,10 @@ parse-attr-push-shorthand-requires : (t : ℕ) → parse-attr-lts.Need-push-shor
   attr-ir-reads.Learnt,
   cut-positional-below t,
   cut-positional.Post,
-  push-attr-groups-reads.Asked,
-  push-attr-groups-reads.Learnt,
+  put-named-reads.Asked,
+  put-named-reads.Learnt,
+  put-groups-reads.Asked,
+  put-groups-reads.Learnt,
   put-id-reads.Asked,
   put-id-reads.Learnt,
   push-shorthand-reads.Asked,
@@ -861,7 +872,7 @@ parse-attr-push-shorthand-requires : (t : ℕ) → parse-attr-lts.Need-push-shor
 ) (parse-attr-at t) parse-attr.Post
 parse-attr-push-shorthand-requires t c κs = (c .before .before .before .before .before .before .before .before .before .before .before .before .before .before .before .before .pre .1 .0, ((omega arith, omega (arith, c .before .before .before .before .before .before .before .before .before .before .before .before .before .before .before .before .pre .1 .1 .0, c .before .before .before .before .before .before .before .before .before .before .before .before .before .before .before .before .pre .1 .1 .1, c .before .before .before .before .before .before .before .before .before .before .before .before .before .before .before .before .pre .1 .1 .2, c .before .before .before .before .before .before .before .before .before .before .before .before .before .before .before .before .pre .1 .0 .few, c .before .before .before .before .before .before .before .before .before .before .before .trim .ensures .1 .within, c .before .before .before .before .before .before .before .before .before .before .before .trim .ensures .1 .few, (subst (λ (x : AttrIr). Bounded (c .before .before .before .before .before .before .before .before .before .before .before .before .before .before .before .before .args .kinds .now) (c .before .before .before .before .before .before .before .before .before .before .before .trim .result .place .0) (c .before .before .before .before .before .before .before .before .before .before .before .trim .result .place .0 + c .before .before .before .before .before .before .before .before .before .before .before .trim .result .count) x) (c .before .before .before .before .before .ir7 .given .1) (c .before .before .before .before .before .before .before .attr-ir .ensures .1 .1)) .within), omega (arith, c .before .before .before .before .before .before .before .before .before .before .before .before .before .before .before .before .pre .1 .1 .0, c .before .before .before .before .before .before .before .before .before .before .before .before .before .before .before .before .pre .1 .1 .1, c .before .before .before .before .before .before .before .before .before .before .before .before .before .before .before .before .pre .1 .1 .2, c .before .before .before .before .before .before .before .before .before .before .before .before .before .before .before .before .pre .1 .0 .few, c .before .before .before .before .before .before .before .before .before .before .before .trim .ensures .1 .within, c .before .before .before .before .before .before .before .before .before .before .before .trim .ensures .1 .few, (subst (λ (x : AttrIr). Bounded (c .before .before .before .before .before .before .before .before .before .before .before .before .before .before .before .before .args .kinds .now) (c .before .before .before .before .before .before .before .before .before .before .before .trim .result .place .0) (c .before .before .before .before .before .before .before .before .before .before .before .trim .result .place .0 + c .before .before .before .before .before .before .before .before .before .before .before .trim .result .count) x) (c .before .before .before .before .before .ir7 .given .1) (c .before .before .before .before .before .before .before .attr-ir .ensures .1 .1)) .few)), whole-stops (c .before .before .before .before .before .before .before .before .before .before .before .before .before .before .before .before .args .kinds .now) (c .before .before .before .before .before .before .before .before .before .before .before .before .before .before .before .before .args .text .now) (c .before .before .before .before .before .before .before .before .before .before .before .before .before .before .before .before .args .pairs .now) (c .before .before .before .before .before .before .before .before .before .before .before .before .before .before .before .before .args .from .0) (c .before .before .before .before .before .before .before .before .before .before .before .before .before .before .before .before .args .to .0) (c .before .before .before .before .before .before .before .before .before .before .before .before .before .before .before .before .args .block) (c .before .before .before .before .before .before .before .before .before .before .before .before .before .before .before .before .args .has) (c .before .before .before .before .before .before .before .before .before .before .before .trim .result) (c .before .before .before .before .before .before .before .before .before .before .before .trim .ensures .0) (c .before .before .before .before .before .before .before .before .before .before .before .trim .ensures .1) (c .before .before .before .before .before .before .before .before .before .before .if1 .left) (c .before .before .before .before .before .before .before .attr-ir .result) (c .before .before .before .before .before .before .before .attr-ir .ensures .1 .0) (c .before .before .before .before .before .ir7 .given .0 .0) (c .before .before .before .before .before .ir7 .given .1) ((subst (λ (x : AttrIr). Bounded (c .before .before .before .before .before .before .before .before .before .before .before .before .before .before .before .before .args .kinds .now) (c .before .before .before .before .before .before .before .before .before .before .before .trim .result .place .0) (c .before .before .before .before .before .before .before .before .before .before .before .trim .result .place .0 + c .before .before .before .before .before .before .before .before .before .before .before .trim .result .count) x) (c .before .before .before .before .before .ir7 .given .1) (c .before .before .before .before .before .before .before .attr-ir .ensures .1 .1)) .ends)))
 
--- src/lib.rt:37:1
+-- src/lib.rt:50:1
 parse-attr-same-length-3 : (t : ℕ) → parse-attr-lts.Need-same-length-3 (
   trim-reads.Asked,
   trim-reads.Learnt,
@@ -873,8 +884,10 @@ parse-attr-same-length-3 : (t : ℕ) → parse-attr-lts.Need-same-length-3 (
   attr-ir-reads.Learnt,
   cut-positional-below t,
   cut-positional.Post,
-  push-attr-groups-reads.Asked,
-  push-attr-groups-reads.Learnt,
+  put-named-reads.Asked,
+  put-named-reads.Learnt,
+  put-groups-reads.Asked,
+  put-groups-reads.Learnt,
   put-id-reads.Asked,
   put-id-reads.Learnt,
   push-shorthand-reads.Asked,
@@ -882,7 +895,7 @@ parse-attr-same-length-3 : (t : ℕ) → parse-attr-lts.Need-same-length-3 (
 ) (parse-attr-at t) parse-attr.Post
 parse-attr-same-length-3 t c = c .before .before .put-one2 .kept .0
 
--- src/lib.rt:37:1
+-- src/lib.rt:50:1
 parse-attr-returns-3 : (t : ℕ) → parse-attr-lts.Need-returns-3 (
   trim-reads.Asked,
   trim-reads.Learnt,
@@ -894,8 +907,10 @@ parse-attr-returns-3 : (t : ℕ) → parse-attr-lts.Need-returns-3 (
   attr-ir-reads.Learnt,
   cut-positional-below t,
   cut-positional.Post,
-  push-attr-groups-reads.Asked,
-  push-attr-groups-reads.Learnt,
+  put-named-reads.Asked,
+  put-named-reads.Learnt,
+  put-groups-reads.Asked,
+  put-groups-reads.Learnt,
   put-id-reads.Asked,
   put-id-reads.Learnt,
   push-shorthand-reads.Asked,
@@ -903,7 +918,7 @@ parse-attr-returns-3 : (t : ℕ) → parse-attr-lts.Need-returns-3 (
 ) (parse-attr-at t) parse-attr.Post
 parse-attr-returns-3 t c = all-told _ _ _ _ _ _ _ (c .before .before .put-one2 .ensures) (whole-positional (c .before .before .before .before .before .before .before .before .before .before .before .before .before .before .before .before .before .before .args .kinds .now) (c .before .before .before .before .before .before .before .before .before .before .before .before .before .before .before .before .before .before .args .text .now) (c .before .before .before .before .before .before .before .before .before .before .before .before .before .before .before .before .before .before .args .pairs .now) (c .before .before .before .before .before .before .before .before .before .before .before .before .before .before .before .before .before .before .args .from .0) (c .before .before .before .before .before .before .before .before .before .before .before .before .before .before .before .before .before .before .args .to .0) (c .before .before .before .before .before .before .before .before .before .before .before .before .before .before .before .before .before .before .args .block) (c .before .before .before .before .before .before .before .before .before .before .before .before .before .before .before .before .before .before .args .has) (c .before .before .before .before .before .before .before .before .before .before .before .before .before .trim .result) (c .before .before .before .before .before .before .before .before .before .before .before .before .before .trim .ensures .0) (c .before .before .before .before .before .before .before .before .before .before .before .before .before .trim .ensures .1) (c .before .before .before .before .before .before .before .before .before .before .before .before .if1 .left) (c .before .before .before .before .before .before .before .before .before .attr-ir .result) (c .before .before .before .before .before .before .before .before .before .attr-ir .ensures .1 .0) (c .before .before .before .before .before .before .before .before .before .attr-ir .ensures .0) (c .before .before .before .before .before .before .before .ir .given .0 .0) (c .before .before .before .before .before .before .before .ir .given .0 .1 .0) (c .before .before .before .before .before .before .before .ir .given .1) (c .before .before .before .before .before .if2 .left) _ (c .before .before .before .one-run2 .ensures)) (omega (arith, c .before .before .put-one2 .ensures .wrote .count))
 
--- src/lib.rt:37:1
+-- src/lib.rt:50:1
 parse-attr-same-length-4 : (t : ℕ) → parse-attr-lts.Need-same-length-4 (
   trim-reads.Asked,
   trim-reads.Learnt,
@@ -915,16 +930,18 @@ parse-attr-same-length-4 : (t : ℕ) → parse-attr-lts.Need-same-length-4 (
   attr-ir-reads.Learnt,
   cut-positional-below t,
   cut-positional.Post,
-  push-attr-groups-reads.Asked,
-  push-attr-groups-reads.Learnt,
+  put-named-reads.Asked,
+  put-named-reads.Learnt,
+  put-groups-reads.Asked,
+  put-groups-reads.Learnt,
   put-id-reads.Asked,
   put-id-reads.Learnt,
   push-shorthand-reads.Asked,
   push-shorthand-reads.Learnt,
 ) (parse-attr-at t) parse-attr.Post
-parse-attr-same-length-4 t c = c .before .before .put-one3 .kept .0
+parse-attr-same-length-4 t c = c .before .before .put-named .kept .0
 
--- src/lib.rt:37:1
+-- src/lib.rt:50:1
 parse-attr-returns-4 : (t : ℕ) → parse-attr-lts.Need-returns-4 (
   trim-reads.Asked,
   trim-reads.Learnt,
@@ -936,16 +953,18 @@ parse-attr-returns-4 : (t : ℕ) → parse-attr-lts.Need-returns-4 (
   attr-ir-reads.Learnt,
   cut-positional-below t,
   cut-positional.Post,
-  push-attr-groups-reads.Asked,
-  push-attr-groups-reads.Learnt,
+  put-named-reads.Asked,
+  put-named-reads.Learnt,
+  put-groups-reads.Asked,
+  put-groups-reads.Learnt,
   put-id-reads.Asked,
   put-id-reads.Learnt,
   push-shorthand-reads.Asked,
   push-shorthand-reads.Learnt,
 ) (parse-attr-at t) parse-attr.Post
-parse-attr-returns-4 t c = all-told _ _ _ _ _ _ _ (c .before .before .put-one3 .ensures) (whole-named (c .before .before .before .before .before .before .before .before .before .before .before .before .before .before .before .before .args .kinds .now) (c .before .before .before .before .before .before .before .before .before .before .before .before .before .before .before .before .args .text .now) (c .before .before .before .before .before .before .before .before .before .before .before .before .before .before .before .before .args .pairs .now) (c .before .before .before .before .before .before .before .before .before .before .before .before .before .before .before .before .args .from .0) (c .before .before .before .before .before .before .before .before .before .before .before .before .before .before .before .before .args .to .0) (c .before .before .before .before .before .before .before .before .before .before .before .before .before .before .before .before .args .block) (c .before .before .before .before .before .before .before .before .before .before .before .before .before .before .before .before .args .has) (c .before .before .before .before .before .before .before .before .before .before .before .trim .result) (c .before .before .before .before .before .before .before .before .before .before .before .trim .ensures .0) (c .before .before .before .before .before .before .before .before .before .before .before .trim .ensures .1) (c .before .before .before .before .before .before .before .before .before .before .if1 .left) (c .before .before .before .before .before .before .before .attr-ir .result) (c .before .before .before .before .before .before .before .attr-ir .ensures .1 .0) (c .before .before .before .before .before .ir2 .given .0 .0) (c .before .before .before .before .before .ir2 .given .0 .1 .0) (c .before .before .before .before .before .ir2 .given .1)) (omega (arith, c .before .before .put-one3 .ensures .wrote .count))
+parse-attr-returns-4 t c = all-told _ _ _ _ _ _ _ (c .before .before .put-named .ensures) (whole-named (c .before .before .before .before .before .before .before .before .before .before .before .before .before .before .before .before .args .kinds .now) (c .before .before .before .before .before .before .before .before .before .before .before .before .before .before .before .before .args .text .now) (c .before .before .before .before .before .before .before .before .before .before .before .before .before .before .before .before .args .pairs .now) (c .before .before .before .before .before .before .before .before .before .before .before .before .before .before .before .before .args .from .0) (c .before .before .before .before .before .before .before .before .before .before .before .before .before .before .before .before .args .to .0) (c .before .before .before .before .before .before .before .before .before .before .before .before .before .before .before .before .args .block) (c .before .before .before .before .before .before .before .before .before .before .before .before .before .before .before .before .args .has) (c .before .before .before .before .before .before .before .before .before .before .before .trim .result) (c .before .before .before .before .before .before .before .before .before .before .before .trim .ensures .0) (c .before .before .before .before .before .before .before .before .before .before .before .trim .ensures .1) (c .before .before .before .before .before .before .before .before .before .before .if1 .left) (c .before .before .before .before .before .before .before .attr-ir .result) (c .before .before .before .before .before .before .before .attr-ir .ensures .1 .0) (c .before .before .before .before .before .ir2 .given .0 .0) (c .before .before .before .before .before .ir2 .given .0 .1 .0) (c .before .before .before .before .before .ir2 .given .1)) (omega (arith, c .before .before .put-named .ensures .wrote .count))
 
--- src/lib.rt:37:1
+-- src/lib.rt:50:1
 parse-attr-same-length-5 : (t : ℕ) → parse-attr-lts.Need-same-length-5 (
   trim-reads.Asked,
   trim-reads.Learnt,
@@ -957,16 +976,18 @@ parse-attr-same-length-5 : (t : ℕ) → parse-attr-lts.Need-same-length-5 (
   attr-ir-reads.Learnt,
   cut-positional-below t,
   cut-positional.Post,
-  push-attr-groups-reads.Asked,
-  push-attr-groups-reads.Learnt,
+  put-named-reads.Asked,
+  put-named-reads.Learnt,
+  put-groups-reads.Asked,
+  put-groups-reads.Learnt,
   put-id-reads.Asked,
   put-id-reads.Learnt,
   push-shorthand-reads.Asked,
   push-shorthand-reads.Learnt,
 ) (parse-attr-at t) parse-attr.Post
-parse-attr-same-length-5 t c = c .before .before .put-one4 .kept .0
+parse-attr-same-length-5 t c = c .before .before .put-named2 .kept .0
 
--- src/lib.rt:37:1
+-- src/lib.rt:50:1
 parse-attr-returns-5 : (t : ℕ) → parse-attr-lts.Need-returns-5 (
   trim-reads.Asked,
   trim-reads.Learnt,
@@ -978,16 +999,18 @@ parse-attr-returns-5 : (t : ℕ) → parse-attr-lts.Need-returns-5 (
   attr-ir-reads.Learnt,
   cut-positional-below t,
   cut-positional.Post,
-  push-attr-groups-reads.Asked,
-  push-attr-groups-reads.Learnt,
+  put-named-reads.Asked,
+  put-named-reads.Learnt,
+  put-groups-reads.Asked,
+  put-groups-reads.Learnt,
   put-id-reads.Asked,
   put-id-reads.Learnt,
   push-shorthand-reads.Asked,
   push-shorthand-reads.Learnt,
 ) (parse-attr-at t) parse-attr.Post
-parse-attr-returns-5 t c = all-told _ _ _ _ _ _ _ (c .before .before .put-one4 .ensures) (whole-plain (c .before .before .before .before .before .before .before .before .before .before .before .before .before .before .before .before .args .kinds .now) (c .before .before .before .before .before .before .before .before .before .before .before .before .before .before .before .before .args .text .now) (c .before .before .before .before .before .before .before .before .before .before .before .before .before .before .before .before .args .pairs .now) (c .before .before .before .before .before .before .before .before .before .before .before .before .before .before .before .before .args .from .0) (c .before .before .before .before .before .before .before .before .before .before .before .before .before .before .before .before .args .to .0) (c .before .before .before .before .before .before .before .before .before .before .before .before .before .before .before .before .args .block) (c .before .before .before .before .before .before .before .before .before .before .before .before .before .before .before .before .args .has) (c .before .before .before .before .before .before .before .before .before .before .before .trim .result) (c .before .before .before .before .before .before .before .before .before .before .before .trim .ensures .0) (c .before .before .before .before .before .before .before .before .before .before .before .trim .ensures .1) (c .before .before .before .before .before .before .before .before .before .before .if1 .left) (c .before .before .before .before .before .before .before .attr-ir .result) (c .before .before .before .before .before .before .before .attr-ir .ensures .1 .0) (c .before .before .before .before .before .ir3 .given .0 .0) (c .before .before .before .before .before .ir3 .given .0 .1 .0) (c .before .before .before .before .before .ir3 .given .1)) (omega (arith, c .before .before .put-one4 .ensures .wrote .count))
+parse-attr-returns-5 t c = all-told _ _ _ _ _ _ _ (c .before .before .put-named2 .ensures) (whole-plain (c .before .before .before .before .before .before .before .before .before .before .before .before .before .before .before .before .args .kinds .now) (c .before .before .before .before .before .before .before .before .before .before .before .before .before .before .before .before .args .text .now) (c .before .before .before .before .before .before .before .before .before .before .before .before .before .before .before .before .args .pairs .now) (c .before .before .before .before .before .before .before .before .before .before .before .before .before .before .before .before .args .from .0) (c .before .before .before .before .before .before .before .before .before .before .before .before .before .before .before .before .args .to .0) (c .before .before .before .before .before .before .before .before .before .before .before .before .before .before .before .before .args .block) (c .before .before .before .before .before .before .before .before .before .before .before .before .before .before .before .before .args .has) (c .before .before .before .before .before .before .before .before .before .before .before .trim .result) (c .before .before .before .before .before .before .before .before .before .before .before .trim .ensures .0) (c .before .before .before .before .before .before .before .before .before .before .before .trim .ensures .1) (c .before .before .before .before .before .before .before .before .before .before .if1 .left) (c .before .before .before .before .before .before .before .attr-ir .result) (c .before .before .before .before .before .before .before .attr-ir .ensures .1 .0) (c .before .before .before .before .before .ir3 .given .0 .0) (c .before .before .before .before .before .ir3 .given .0 .1 .0) (c .before .before .before .before .before .ir3 .given .1)) (omega (arith, c .before .before .put-named2 .ensures .wrote .count))
 
--- src/lib.rt:37:1
+-- src/lib.rt:50:1
 parse-attr-same-length-6 : (t : ℕ) → parse-attr-lts.Need-same-length-6 (
   trim-reads.Asked,
   trim-reads.Learnt,
@@ -999,16 +1022,18 @@ parse-attr-same-length-6 : (t : ℕ) → parse-attr-lts.Need-same-length-6 (
   attr-ir-reads.Learnt,
   cut-positional-below t,
   cut-positional.Post,
-  push-attr-groups-reads.Asked,
-  push-attr-groups-reads.Learnt,
+  put-named-reads.Asked,
+  put-named-reads.Learnt,
+  put-groups-reads.Asked,
+  put-groups-reads.Learnt,
   put-id-reads.Asked,
   put-id-reads.Learnt,
   push-shorthand-reads.Asked,
   push-shorthand-reads.Learnt,
 ) (parse-attr-at t) parse-attr.Post
-parse-attr-same-length-6 t c = c .before .before .push-attr-groups .kept .1 .1 .1 .1 .1 .0
+parse-attr-same-length-6 t c = c .before .before .put-groups .kept .1 .1 .1 .1 .1 .0
 
--- src/lib.rt:37:1
+-- src/lib.rt:50:1
 parse-attr-returns-6 : (t : ℕ) → parse-attr-lts.Need-returns-6 (
   trim-reads.Asked,
   trim-reads.Learnt,
@@ -1020,16 +1045,18 @@ parse-attr-returns-6 : (t : ℕ) → parse-attr-lts.Need-returns-6 (
   attr-ir-reads.Learnt,
   cut-positional-below t,
   cut-positional.Post,
-  push-attr-groups-reads.Asked,
-  push-attr-groups-reads.Learnt,
+  put-named-reads.Asked,
+  put-named-reads.Learnt,
+  put-groups-reads.Asked,
+  put-groups-reads.Learnt,
   put-id-reads.Asked,
   put-id-reads.Learnt,
   push-shorthand-reads.Asked,
   push-shorthand-reads.Learnt,
 ) (parse-attr-at t) parse-attr.Post
-parse-attr-returns-6 t c = all-told _ _ _ _ _ _ _ (record { wrote = c .before .before .push-attr-groups .ensures .0 _ _; id = refl }) (whole-options (c .before .before .before .before .before .before .before .before .before .before .before .before .before .before .before .before .before .before .before .args .kinds .now) (c .before .before .before .before .before .before .before .before .before .before .before .before .before .before .before .before .before .before .before .args .text .now) (c .before .before .before .before .before .before .before .before .before .before .before .before .before .before .before .before .before .before .before .args .pairs .now) (c .before .before .before .before .before .before .before .before .before .before .before .before .before .before .before .before .before .before .before .args .from .0) (c .before .before .before .before .before .before .before .before .before .before .before .before .before .before .before .before .before .before .before .args .to .0) (c .before .before .before .before .before .before .before .before .before .before .before .before .before .before .before .before .before .before .before .args .block) (c .before .before .before .before .before .before .before .before .before .before .before .before .before .before .before .before .before .before .before .args .has) (c .before .before .before .before .before .before .before .before .before .before .before .before .before .before .trim .result) (c .before .before .before .before .before .before .before .before .before .before .before .before .before .before .trim .ensures .0) (c .before .before .before .before .before .before .before .before .before .before .before .before .before .before .trim .ensures .1) (c .before .before .before .before .before .before .before .before .before .before .before .before .before .if1 .left) (c .before .before .before .before .before .before .before .before .before .before .attr-ir .result) (c .before .before .before .before .before .before .before .before .before .before .attr-ir .ensures .1 .0) (c .before .before .before .before .before .before .before .before .ir4 .given .0 .0) (c .before .before .before .before .before .before .before .before .ir4 .given .1)) (omega (arith, c .before .before .push-attr-groups .ensures .1, c .before .before .before .before .before .before .before .before .before .before .before .before .before .before .before .before .before .before .before .pre .1 .1 .0, c .before .before .before .before .before .before .before .before .before .before .before .before .before .before .before .before .before .before .before .pre .1 .1 .1, c .before .before .before .before .before .before .before .before .before .before .before .before .before .before .before .before .before .before .before .pre .1 .1 .2, c .before .before .before .before .before .before .before .before .before .before .before .before .before .before .before .before .before .before .before .pre .1 .0 .few, c .before .before .before .before .before .before .before .before .before .before .before .before .before .before .trim .ensures .1 .within, c .before .before .before .before .before .before .before .before .before .before .before .before .before .before .trim .ensures .1 .few, (subst (λ (x : AttrIr). Bounded (c .before .before .before .before .before .before .before .before .before .before .before .before .before .before .before .before .before .before .before .args .kinds .now) (c .before .before .before .before .before .before .before .before .before .before .before .before .before .before .trim .result .place .0) (c .before .before .before .before .before .before .before .before .before .before .before .before .before .before .trim .result .place .0 + c .before .before .before .before .before .before .before .before .before .before .before .before .before .before .trim .result .count) x) (c .before .before .before .before .before .before .before .before .ir4 .given .1) (c .before .before .before .before .before .before .before .before .before .before .attr-ir .ensures .1 .1)) .few))
+parse-attr-returns-6 t c = all-told _ _ _ _ _ _ _ (record { wrote = c .before .before .put-groups .ensures .0 _ _; id = c .before .before .put-groups .ensures .1 .0 }) (whole-options (c .before .before .before .before .before .before .before .before .before .before .before .before .before .before .before .before .args .kinds .now) (c .before .before .before .before .before .before .before .before .before .before .before .before .before .before .before .before .args .text .now) (c .before .before .before .before .before .before .before .before .before .before .before .before .before .before .before .before .args .pairs .now) (c .before .before .before .before .before .before .before .before .before .before .before .before .before .before .before .before .args .from .0) (c .before .before .before .before .before .before .before .before .before .before .before .before .before .before .before .before .args .to .0) (c .before .before .before .before .before .before .before .before .before .before .before .before .before .before .before .before .args .block) (c .before .before .before .before .before .before .before .before .before .before .before .before .before .before .before .before .args .has) (c .before .before .before .before .before .before .before .before .before .before .before .trim .result) (c .before .before .before .before .before .before .before .before .before .before .before .trim .ensures .0) (c .before .before .before .before .before .before .before .before .before .before .before .trim .ensures .1) (c .before .before .before .before .before .before .before .before .before .before .if1 .left) (c .before .before .before .before .before .before .before .attr-ir .result) (c .before .before .before .before .before .before .before .attr-ir .ensures .1 .0) (c .before .before .before .before .before .ir4 .given .0 .0) (c .before .before .before .before .before .ir4 .given .1)) (omega (arith, c .before .before .put-groups .ensures .1 .1, c .before .before .before .before .before .before .before .before .before .before .before .before .before .before .before .before .pre .1 .1 .0, c .before .before .before .before .before .before .before .before .before .before .before .before .before .before .before .before .pre .1 .1 .1, c .before .before .before .before .before .before .before .before .before .before .before .before .before .before .before .before .pre .1 .1 .2, c .before .before .before .before .before .before .before .before .before .before .before .before .before .before .before .before .pre .1 .0 .few, c .before .before .before .before .before .before .before .before .before .before .before .trim .ensures .1 .within, c .before .before .before .before .before .before .before .before .before .before .before .trim .ensures .1 .few, (subst (λ (x : AttrIr). Bounded (c .before .before .before .before .before .before .before .before .before .before .before .before .before .before .before .before .args .kinds .now) (c .before .before .before .before .before .before .before .before .before .before .before .trim .result .place .0) (c .before .before .before .before .before .before .before .before .before .before .before .trim .result .place .0 + c .before .before .before .before .before .before .before .before .before .before .before .trim .result .count) x) (c .before .before .before .before .before .ir4 .given .1) (c .before .before .before .before .before .before .before .attr-ir .ensures .1 .1)) .few))
 
--- src/lib.rt:37:1
+-- src/lib.rt:50:1
 parse-attr-same-length-7 : (t : ℕ) → parse-attr-lts.Need-same-length-7 (
   trim-reads.Asked,
   trim-reads.Learnt,
@@ -1041,16 +1068,18 @@ parse-attr-same-length-7 : (t : ℕ) → parse-attr-lts.Need-same-length-7 (
   attr-ir-reads.Learnt,
   cut-positional-below t,
   cut-positional.Post,
-  push-attr-groups-reads.Asked,
-  push-attr-groups-reads.Learnt,
+  put-named-reads.Asked,
+  put-named-reads.Learnt,
+  put-groups-reads.Asked,
+  put-groups-reads.Learnt,
   put-id-reads.Asked,
   put-id-reads.Learnt,
   push-shorthand-reads.Asked,
   push-shorthand-reads.Learnt,
 ) (parse-attr-at t) parse-attr.Post
-parse-attr-same-length-7 t c = c .before .before .push-attr-groups2 .kept .1 .1 .1 .1 .1 .0
+parse-attr-same-length-7 t c = c .before .before .put-groups2 .kept .1 .1 .1 .1 .1 .0
 
--- src/lib.rt:37:1
+-- src/lib.rt:50:1
 parse-attr-returns-7 : (t : ℕ) → parse-attr-lts.Need-returns-7 (
   trim-reads.Asked,
   trim-reads.Learnt,
@@ -1062,16 +1091,18 @@ parse-attr-returns-7 : (t : ℕ) → parse-attr-lts.Need-returns-7 (
   attr-ir-reads.Learnt,
   cut-positional-below t,
   cut-positional.Post,
-  push-attr-groups-reads.Asked,
-  push-attr-groups-reads.Learnt,
+  put-named-reads.Asked,
+  put-named-reads.Learnt,
+  put-groups-reads.Asked,
+  put-groups-reads.Learnt,
   put-id-reads.Asked,
   put-id-reads.Learnt,
   push-shorthand-reads.Asked,
   push-shorthand-reads.Learnt,
 ) (parse-attr-at t) parse-attr.Post
-parse-attr-returns-7 t c = all-told _ _ _ _ _ _ _ (record { wrote = c .before .before .push-attr-groups2 .ensures .0 _ _; id = refl }) (whole-roles (c .before .before .before .before .before .before .before .before .before .before .before .before .before .before .before .before .before .before .before .args .kinds .now) (c .before .before .before .before .before .before .before .before .before .before .before .before .before .before .before .before .before .before .before .args .text .now) (c .before .before .before .before .before .before .before .before .before .before .before .before .before .before .before .before .before .before .before .args .pairs .now) (c .before .before .before .before .before .before .before .before .before .before .before .before .before .before .before .before .before .before .before .args .from .0) (c .before .before .before .before .before .before .before .before .before .before .before .before .before .before .before .before .before .before .before .args .to .0) (c .before .before .before .before .before .before .before .before .before .before .before .before .before .before .before .before .before .before .before .args .block) (c .before .before .before .before .before .before .before .before .before .before .before .before .before .before .before .before .before .before .before .args .has) (c .before .before .before .before .before .before .before .before .before .before .before .before .before .before .trim .result) (c .before .before .before .before .before .before .before .before .before .before .before .before .before .before .trim .ensures .0) (c .before .before .before .before .before .before .before .before .before .before .before .before .before .before .trim .ensures .1) (c .before .before .before .before .before .before .before .before .before .before .before .before .before .if1 .left) (c .before .before .before .before .before .before .before .before .before .before .attr-ir .result) (c .before .before .before .before .before .before .before .before .before .before .attr-ir .ensures .1 .0) (c .before .before .before .before .before .before .before .before .ir5 .given .0 .0) (c .before .before .before .before .before .before .before .before .ir5 .given .1)) (omega (arith, c .before .before .push-attr-groups2 .ensures .1, c .before .before .before .before .before .before .before .before .before .before .before .before .before .before .before .before .before .before .before .pre .1 .1 .0, c .before .before .before .before .before .before .before .before .before .before .before .before .before .before .before .before .before .before .before .pre .1 .1 .1, c .before .before .before .before .before .before .before .before .before .before .before .before .before .before .before .before .before .before .before .pre .1 .1 .2, c .before .before .before .before .before .before .before .before .before .before .before .before .before .before .before .before .before .before .before .pre .1 .0 .few, c .before .before .before .before .before .before .before .before .before .before .before .before .before .before .trim .ensures .1 .within, c .before .before .before .before .before .before .before .before .before .before .before .before .before .before .trim .ensures .1 .few, (subst (λ (x : AttrIr). Bounded (c .before .before .before .before .before .before .before .before .before .before .before .before .before .before .before .before .before .before .before .args .kinds .now) (c .before .before .before .before .before .before .before .before .before .before .before .before .before .before .trim .result .place .0) (c .before .before .before .before .before .before .before .before .before .before .before .before .before .before .trim .result .place .0 + c .before .before .before .before .before .before .before .before .before .before .before .before .before .before .trim .result .count) x) (c .before .before .before .before .before .before .before .before .ir5 .given .1) (c .before .before .before .before .before .before .before .before .before .before .attr-ir .ensures .1 .1)) .few))
+parse-attr-returns-7 t c = all-told _ _ _ _ _ _ _ (record { wrote = c .before .before .put-groups2 .ensures .0 _ _; id = c .before .before .put-groups2 .ensures .1 .0 }) (whole-roles (c .before .before .before .before .before .before .before .before .before .before .before .before .before .before .before .before .args .kinds .now) (c .before .before .before .before .before .before .before .before .before .before .before .before .before .before .before .before .args .text .now) (c .before .before .before .before .before .before .before .before .before .before .before .before .before .before .before .before .args .pairs .now) (c .before .before .before .before .before .before .before .before .before .before .before .before .before .before .before .before .args .from .0) (c .before .before .before .before .before .before .before .before .before .before .before .before .before .before .before .before .args .to .0) (c .before .before .before .before .before .before .before .before .before .before .before .before .before .before .before .before .args .block) (c .before .before .before .before .before .before .before .before .before .before .before .before .before .before .before .before .args .has) (c .before .before .before .before .before .before .before .before .before .before .before .trim .result) (c .before .before .before .before .before .before .before .before .before .before .before .trim .ensures .0) (c .before .before .before .before .before .before .before .before .before .before .before .trim .ensures .1) (c .before .before .before .before .before .before .before .before .before .before .if1 .left) (c .before .before .before .before .before .before .before .attr-ir .result) (c .before .before .before .before .before .before .before .attr-ir .ensures .1 .0) (c .before .before .before .before .before .ir5 .given .0 .0) (c .before .before .before .before .before .ir5 .given .1)) (omega (arith, c .before .before .put-groups2 .ensures .1 .1, c .before .before .before .before .before .before .before .before .before .before .before .before .before .before .before .before .pre .1 .1 .0, c .before .before .before .before .before .before .before .before .before .before .before .before .before .before .before .before .pre .1 .1 .1, c .before .before .before .before .before .before .before .before .before .before .before .before .before .before .before .before .pre .1 .1 .2, c .before .before .before .before .before .before .before .before .before .before .before .before .before .before .before .before .pre .1 .0 .few, c .before .before .before .before .before .before .before .before .before .before .before .trim .ensures .1 .within, c .before .before .before .before .before .before .before .before .before .before .before .trim .ensures .1 .few, (subst (λ (x : AttrIr). Bounded (c .before .before .before .before .before .before .before .before .before .before .before .before .before .before .before .before .args .kinds .now) (c .before .before .before .before .before .before .before .before .before .before .before .trim .result .place .0) (c .before .before .before .before .before .before .before .before .before .before .before .trim .result .place .0 + c .before .before .before .before .before .before .before .before .before .before .before .trim .result .count) x) (c .before .before .before .before .before .ir5 .given .1) (c .before .before .before .before .before .before .before .attr-ir .ensures .1 .1)) .few))
 
--- src/lib.rt:37:1
+-- src/lib.rt:50:1
 parse-attr-same-length-8 : (t : ℕ) → parse-attr-lts.Need-same-length-8 (
   trim-reads.Asked,
   trim-reads.Learnt,
@@ -1083,8 +1114,10 @@ parse-attr-same-length-8 : (t : ℕ) → parse-attr-lts.Need-same-length-8 (
   attr-ir-reads.Learnt,
   cut-positional-below t,
   cut-positional.Post,
-  push-attr-groups-reads.Asked,
-  push-attr-groups-reads.Learnt,
+  put-named-reads.Asked,
+  put-named-reads.Learnt,
+  put-groups-reads.Asked,
+  put-groups-reads.Learnt,
   put-id-reads.Asked,
   put-id-reads.Learnt,
   push-shorthand-reads.Asked,
@@ -1092,7 +1125,7 @@ parse-attr-same-length-8 : (t : ℕ) → parse-attr-lts.Need-same-length-8 (
 ) (parse-attr-at t) parse-attr.Post
 parse-attr-same-length-8 t c = c .before .before .put-id .kept .0
 
--- src/lib.rt:37:1
+-- src/lib.rt:50:1
 parse-attr-returns-8 : (t : ℕ) → parse-attr-lts.Need-returns-8 (
   trim-reads.Asked,
   trim-reads.Learnt,
@@ -1104,8 +1137,10 @@ parse-attr-returns-8 : (t : ℕ) → parse-attr-lts.Need-returns-8 (
   attr-ir-reads.Learnt,
   cut-positional-below t,
   cut-positional.Post,
-  push-attr-groups-reads.Asked,
-  push-attr-groups-reads.Learnt,
+  put-named-reads.Asked,
+  put-named-reads.Learnt,
+  put-groups-reads.Asked,
+  put-groups-reads.Learnt,
   put-id-reads.Asked,
   put-id-reads.Learnt,
   push-shorthand-reads.Asked,
@@ -1113,7 +1148,7 @@ parse-attr-returns-8 : (t : ℕ) → parse-attr-lts.Need-returns-8 (
 ) (parse-attr-at t) parse-attr.Post
 parse-attr-returns-8 t c = let w = c .before .before .put-id .ensures _ (id-run (c .before .before .before .before .before .before .before .before .before .before .before .before .before .before .before .before .args .kinds .now) (c .before .before .before .before .before .before .before .before .before .before .before .before .before .before .before .before .args .text .now) (c .before .before .before .before .before .before .before .before .before .before .before .before .before .before .before .before .args .pairs .now) (c .before .before .before .before .before .before .before .before .before .before .before .before .before .before .before .before .args .from .0) (c .before .before .before .before .before .before .before .before .before .before .before .before .before .before .before .before .args .to .0) (c .before .before .before .before .before .before .before .before .before .before .before .before .before .before .before .before .args .block) (c .before .before .before .before .before .before .before .before .before .before .before .before .before .before .before .before .args .has) (c .before .before .before .before .before .before .before .before .before .before .before .trim .result) (c .before .before .before .before .before .before .before .before .before .before .before .trim .ensures .0) (c .before .before .before .before .before .before .before .before .before .before .before .trim .ensures .1) (c .before .before .before .before .before .before .before .before .before .before .if1 .left) (c .before .before .before .before .before .before .before .attr-ir .result) (c .before .before .before .before .before .before .before .attr-ir .ensures .1 .0) (c .before .before .before .before .before .before .before .attr-ir .ensures .0) (c .before .before .before .before .before .ir6 .given .0 .0) (c .before .before .before .before .before .ir6 .given .1)) in all-told _ _ _ _ _ _ _ w (whole-id (c .before .before .before .before .before .before .before .before .before .before .before .before .before .before .before .before .args .kinds .now) (c .before .before .before .before .before .before .before .before .before .before .before .before .before .before .before .before .args .text .now) (c .before .before .before .before .before .before .before .before .before .before .before .before .before .before .before .before .args .pairs .now) (c .before .before .before .before .before .before .before .before .before .before .before .before .before .before .before .before .args .from .0) (c .before .before .before .before .before .before .before .before .before .before .before .before .before .before .before .before .args .to .0) (c .before .before .before .before .before .before .before .before .before .before .before .before .before .before .before .before .args .block) (c .before .before .before .before .before .before .before .before .before .before .before .before .before .before .before .before .args .has) (c .before .before .before .before .before .before .before .before .before .before .before .trim .result) (c .before .before .before .before .before .before .before .before .before .before .before .trim .ensures .0) (c .before .before .before .before .before .before .before .before .before .before .before .trim .ensures .1) (c .before .before .before .before .before .before .before .before .before .before .if1 .left) (c .before .before .before .before .before .before .before .attr-ir .result) (c .before .before .before .before .before .before .before .attr-ir .ensures .1 .0) (c .before .before .before .before .before .ir6 .given .0 .0) (c .before .before .before .before .before .ir6 .given .1)) (id-few _ _ _ _ _ _ _ w (omega arith))
 
--- src/lib.rt:37:1
+-- src/lib.rt:50:1
 parse-attr-same-length-9 : (t : ℕ) → parse-attr-lts.Need-same-length-9 (
   trim-reads.Asked,
   trim-reads.Learnt,
@@ -1125,8 +1160,10 @@ parse-attr-same-length-9 : (t : ℕ) → parse-attr-lts.Need-same-length-9 (
   attr-ir-reads.Learnt,
   cut-positional-below t,
   cut-positional.Post,
-  push-attr-groups-reads.Asked,
-  push-attr-groups-reads.Learnt,
+  put-named-reads.Asked,
+  put-named-reads.Learnt,
+  put-groups-reads.Asked,
+  put-groups-reads.Learnt,
   put-id-reads.Asked,
   put-id-reads.Learnt,
   push-shorthand-reads.Asked,
@@ -1134,7 +1171,7 @@ parse-attr-same-length-9 : (t : ℕ) → parse-attr-lts.Need-same-length-9 (
 ) (parse-attr-at t) parse-attr.Post
 parse-attr-same-length-9 t c = c .before .before .push-shorthand .kept .1 .1 .1 .1 .1 .1 .0
 
--- src/lib.rt:37:1
+-- src/lib.rt:50:1
 parse-attr-returns-9 : (t : ℕ) → parse-attr-lts.Need-returns-9 (
   trim-reads.Asked,
   trim-reads.Learnt,
@@ -1146,8 +1183,10 @@ parse-attr-returns-9 : (t : ℕ) → parse-attr-lts.Need-returns-9 (
   attr-ir-reads.Learnt,
   cut-positional-below t,
   cut-positional.Post,
-  push-attr-groups-reads.Asked,
-  push-attr-groups-reads.Learnt,
+  put-named-reads.Asked,
+  put-named-reads.Learnt,
+  put-groups-reads.Asked,
+  put-groups-reads.Learnt,
   put-id-reads.Asked,
   put-id-reads.Learnt,
   push-shorthand-reads.Asked,
@@ -1196,8 +1235,10 @@ pub +cut-positional+parse-attr-spec : {M : Type 1} → statement M
       attr-ir-reads.Learnt,
       cut-positional-below t,
       cut-positional.Post,
-      push-attr-groups-reads.Asked,
-      push-attr-groups-reads.Learnt,
+      put-named-reads.Asked,
+      put-named-reads.Learnt,
+      put-groups-reads.Asked,
+      put-groups-reads.Learnt,
       put-id-reads.Asked,
       put-id-reads.Learnt,
       push-shorthand-reads.Asked,
@@ -1210,7 +1251,7 @@ pub +cut-positional+parse-attr-spec : {M : Type 1} → statement M
     (parse-attr-put-one-requires t)
     (parse-attr-same-length t)
     (parse-attr-returns t)
-    (parse-attr-add-t36 t)
+    (parse-attr-add-t31 t)
     (parse-attr-attr-ir-requires t)
     (parse-attr-enum-known-ir t)
     (parse-attr-cut-positional-requires t)
@@ -1219,19 +1260,17 @@ pub +cut-positional+parse-attr-spec : {M : Type 1} → statement M
     (parse-attr-one-run-requires-2 t)
     (parse-attr-put-one-requires-2 t)
     (parse-attr-enum-known-ir-2 t)
-    (parse-attr-put-one-requires-3 t)
+    (parse-attr-put-named-requires t)
     (parse-attr-enum-known-ir-3 t)
-    (parse-attr-put-one-requires-4 t)
+    (parse-attr-put-named-requires-2 t)
     (parse-attr-enum-known-ir-4 t)
-    (parse-attr-add-t49 t)
-    (parse-attr-push-attr-groups-requires t)
+    (parse-attr-put-groups-requires t)
     (parse-attr-enum-known-ir-5 t)
-    (parse-attr-add-t52 t)
-    (parse-attr-push-attr-groups-requires-2 t)
+    (parse-attr-put-groups-requires-2 t)
     (parse-attr-enum-known-ir-6 t)
     (parse-attr-put-id-requires t)
     (parse-attr-enum-known-ir-7 t)
-    (parse-attr-add-t57 t)
+    (parse-attr-add-t49 t)
     (parse-attr-push-shorthand-requires t)
     (parse-attr-same-length-3 t)
     (parse-attr-returns-3 t)

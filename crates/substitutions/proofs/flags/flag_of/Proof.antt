@@ -1,32 +1,34 @@
--- `flag_of` gives 2 to the power k − 1. Each arm knows its k; the last is 7, the only kind left. Assumes nothing.
-use Prim.Native.Nat.{_-_}
+-- `flag_of` is 1 shifted to kind k: no bit is lost for k of 1 to 7. Assumes nothing.
+use borrow.Author.Needs.{needs}
+use Prim.Native.Nat.{ℕ, zero, suc, _*_, _-_, _%_, _^_, _≤_}
 use native.Mathlib.Omega.{arith}
-use mathlib.Core.Path.{_≡_, sym, ap}
+use mathlib.Core.Path.{_≡_, refl}
 use Rattle.substitutions.specs.Kinds.{flagOf}
 use Rattle.substitutions.proofs.flags.flag_of.Statement.{statement}
 use Rattle.substitutions.proofs.flags.flag_of.Tie as tie
 
+shifted : (k : ℕ) → 1 ≤ k → k ≤ 7 → (1 * 2 ^ (k - 1) % 256 ≡ flagOf k) × (1 ≤ 1 * 2 ^ (k - 1) % 256) × (1 * 2 ^ (k - 1) % 256 ≤ 64)
+shifted zero low high = absurd (omega arith)
+shifted (suc zero) low high = (refl, omega arith, omega arith)
+shifted (suc (suc zero)) low high = (refl, omega arith, omega arith)
+shifted (suc (suc (suc zero))) low high = (refl, omega arith, omega arith)
+shifted (suc (suc (suc (suc zero)))) low high = (refl, omega arith, omega arith)
+shifted (suc (suc (suc (suc (suc zero))))) low high = (refl, omega arith, omega arith)
+shifted (suc (suc (suc (suc (suc (suc zero)))))) low high = (refl, omega arith, omega arith)
+shifted (suc (suc (suc (suc (suc (suc (suc zero))))))) low high = (refl, omega arith, omega arith)
+shifted (suc (suc (suc (suc (suc (suc (suc (suc k)))))))) low high = absurd (omega arith)
+
+-- src/flags.rt:11:11
+sub-result : tie.Need-sub-result
+sub-result c = search needs
+
+-- src/flags.rt:11:5
+shl-result : tie.Need-shl-result
+shl-result c = search needs
+
+-- src/flags.rt:6:1
 returns : tie.Need-returns
-returns c = (sym (ap flagOf (c .match .keys1)), (omega arith, omega arith))
-
-returns-2 : tie.Need-returns-2
-returns-2 c = (sym (ap flagOf (c .match .keys2)), (omega arith, omega arith))
-
-returns-3 : tie.Need-returns-3
-returns-3 c = (sym (ap flagOf (c .match .keys3)), (omega arith, omega arith))
-
-returns-4 : tie.Need-returns-4
-returns-4 c = (sym (ap flagOf (c .match .keys4)), (omega arith, omega arith))
-
-returns-5 : tie.Need-returns-5
-returns-5 c = (sym (ap flagOf (c .match .keys5)), (omega arith, omega arith))
-
-returns-6 : tie.Need-returns-6
-returns-6 c = (sym (ap flagOf (c .match .keys6)), (omega arith, omega arith))
-
-returns-7 : tie.Need-returns-7
-returns-7 c = let e : c .before .args .k ≡ 7 = omega arith in (sym (ap flagOf e), (omega arith, omega arith))
+returns c = let w = shifted (c .args .k) (c .pre .0) (c .pre .1) in (w .0, (w .1, w .2))
 
 pub flag-of-spec : {M : Type 1} → statement M
-flag-of-spec =
-    tie.close (tie.spec returns returns-2 returns-3 returns-4 returns-5 returns-6 returns-7)
+flag-of-spec = tie.close (tie.spec sub-result shl-result returns)

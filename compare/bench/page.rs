@@ -227,26 +227,30 @@ divided by the reader's.
 
 const FROM_META: &str = "
 The Rust is handed a set that it has made itself. The reader checks the set that it is lent, place by
-place (10, and 11 in sheet mode): of the 432 instructions of a call with one name, 157 are this check
-(counted by callgrind). On longer texts the two are alike; neither allocates, and the time is that of
-looking at each byte and comparing names.
+place (10, and 11 in sheet mode): a call with one name takes 432 instructions (callgrind), and one with
+no subs attribute, which does little but this check, 157. Why 120 parts take a little longer than the
+Rust's was not looked for.
 ";
 
 const WHERE_TIME_GOES: &str = "
 ## Where the time goes
 
-A line of 3 tokens takes 464 instructions (callgrind): 151 in the entry, which checks the line, 124 to
-find its commas and its closing bracket, 166 in the reading of its two attributes. Two causes of
-earlier, slower times were found and are gone, with the contracts as they were: the answer was copied
-on its way through a function that the four entries shared, together with the enum's unused bytes,
-which stalled every short line (37 ns for 3 tokens, now 23, both measured in one run); and an attribute
-of no tokens was read by a call, which cost three times what its row does (7.7 ns per token for a line
-of commas, now 2.5).
+The target of 5 is missed at 3 tokens: with nothing else running, three runs gave 4.9, 4.6 and 4.8
+(the last is the one above, and the others differ mostly by the Rust's own time); a run before them
+gave 5.0. All other lines keep it in each of these runs.
 
-What is left at 3 tokens is the price of the calls: the compiler's back end passes every slice by the
-address of its pointer and length, and a copy of the two right after they were written waits for the
-writes. Clearing a smaller array for the commas was tried (64, 32 and 16 numbers): it changes 3 tokens
-by half a nanosecond, and makes lines of 20 to 64 tokens slower.
+Two changes were made, with the contracts as they were, and measured on lines of their own (not the
+mix) in one run. An attribute of no tokens is written where it is met and not by a call: a line of
+commas went from 7.7 to 2.5 ns per token. The entries check the line themselves and no longer share a
+function that is told the entry: a word, a comma and a bracket went from 34 to 23 ns. A profile before
+it put about a seventh of the time at the copy of the answer, unused bytes and all, on the way out of
+that function; what else of the gain came from it, and what from better inlining, was not separated.
+
+What is left at 3 tokens is not settled. That line takes 464 instructions: 151 in the entry, with its
+checks, 124 for the commas, the bracket and the empty attribute, 166 for the word. The same kind of
+profile points at the copy of a slice's address and length right after they are written, but such a
+profile is not exact to the instruction, and no change of the code has shown it. A smaller array for
+the commas gains half a nanosecond at most; at 16 numbers a line of 20 tokens takes 1.6 times as long.
 ";
 
 // ---- the plot

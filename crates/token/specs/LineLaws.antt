@@ -102,6 +102,22 @@ placed-not size end (o ∷ n ∷ ps) w =
 
 -- ---- the loops of the checks, place by place
 
+-- what the loop of 6 keeps: a token has ended past the text, or one from here on is misplaced. While none begins before the previous one ends, an end
+-- past the text is never made good by a later one, so the last end tells
+abbrev pub passed : (size end : ℕ) → List ℕ → Bool
+passed size end ps = ltb size end || misplaced size end ps
+
+or-true : (b : Bool) → true ≡ (b || true)
+or-true true = refl
+or-true false = refl
+
+or-none : (b : Bool) → b ≡ (b || false)
+or-none true = refl
+or-none false = refl
+
+pub passed-first : (size : ℕ) (ps : List ℕ) → passed size 0 ps ≡ misplaced size 0 ps
+passed-first size ps = rw (le-ltb size 0 (omega arith)) refl
+
 module _ (ks : List ℕ) (i : ℕ) (h : i < length ks) where
   pub over-here : largest < getD ks i 0 → true ≡ someOver (drop i ks)
   unfolding someOver
@@ -122,21 +138,21 @@ module _ (ps : List ℕ) (i : ℕ) (h : 2 * i + 1 < length ps) where
       rw (drop-cons ps (2 * i) 0 (omega arith), e, add-one (2 * i), drop-cons ps (suc (2 * i)) 0 (omega arith))
 
   module _ (size end o n : ℕ) (eo : o ≡ getD ps (2 * i) 0) (en : n ≡ getD ps (2 * i + 1) 0) where
-    pub misplaced-before : o < end → true ≡ misplaced size end (drop (2 * i) ps)
+    pub passed-before : o < end → true ≡ passed size end (drop (2 * i) ps)
     unfolding misplaced
-    misplaced-before g = rw (pair-at, ← eo, lt-ltb o end g)
+    passed-before g = rw (pair-at, ← eo, lt-ltb o end g) (or-true (ltb size end))
 
-    pub misplaced-past : end ≤ o → size < o + n → true ≡ misplaced size end (drop (2 * i) ps)
+    pub passed-next : end ≤ o → passed size (o + n) (drop (2 * (i + 1)) ps) ≡ passed size end (drop (2 * i) ps)
     unfolding misplaced
-    misplaced-past g f = rw (pair-at, ← eo, ← en, le-ltb o end g, lt-ltb size (o + n) f)
+    passed-next g = rw (pair-at, ← eo, ← en, le-ltb o end g) (absorbed (ltb size end) refl)
+      where
+        absorbed : (b : Bool) → ltb size end ≡ b → passed size (o + n) (drop (2 * (i + 1)) ps) ≡ (b || passed size (o + n) (drop (2 * (i + 1)) ps))
+        absorbed true e = let low : size < end = ltb-true size end e in rw (lt-ltb size (o + n) (omega (arith, low, g))) refl
+        absorbed false e = refl
 
-    pub misplaced-next : end ≤ o → o + n ≤ size → misplaced size (o + n) (drop (2 * (i + 1)) ps) ≡ misplaced size end (drop (2 * i) ps)
-    unfolding misplaced
-    misplaced-next g f = rw (pair-at, ← eo, ← en, le-ltb o end g, le-ltb size (o + n) f)
-
-pub misplaced-end : (ps : List ℕ) (i size end : ℕ) → length ps ≤ 2 * i → false ≡ misplaced size end (drop (2 * i) ps)
+pub passed-end : (ps : List ℕ) (i size end : ℕ) → length ps ≤ 2 * i → ltb size end ≡ passed size end (drop (2 * i) ps)
 unfolding misplaced
-misplaced-end ps i size end h = rw (drop-of-length-le ps h)
+passed-end ps i size end h = rw (drop-of-length-le ps h) (or-none (ltb size end))
 
 -- ---- a line that is not refused
 

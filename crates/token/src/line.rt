@@ -55,7 +55,7 @@ fn some_over(kinds: &[u8]) -> bool
     false
 }
 
-// Whether some token starts before the previous ends, or ends past a text of `size` bytes.
+// Whether some token starts before the previous ends, or ends past a text of `size` bytes. Where none does the first, no token ends after the last.
 fn some_misplaced(pairs: &[u32], tokens: usize, size: usize) -> bool
     requires { ⌜ length (now pairs) ≡ 2 * tokens ⌝ }
     ensures { λ r. ⌜ r ≡ misplaced size 0 (now (pairs .entry)) ⌝ }
@@ -68,13 +68,10 @@ fn some_misplaced(pairs: &[u32], tokens: usize, size: usize) -> bool
         if start.0 < end {
             return true;
         }
-        if size < next {
-            return true;
-        }
         end = next;
         i += 1;
     }
-    false
+    size < end
 }
 
 // The number with which a line of at most `most` tokens is refused, 0 where it is not.

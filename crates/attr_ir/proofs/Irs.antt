@@ -35,10 +35,10 @@ module _ (kinds text pairs : List ℕ) (from to : ℕ) (block : Bool) (reading :
   )
 
   pub ir-positional : (noted : Bool) → reading ≡ Positional noted → (r : Run) → ((text pairs : List ℕ) → r ≡ runOf (unquote (kept (lineOf kinds text pairs) from to))) → Part unquote kinds from to r
-      → (q : Bool) → ((text pairs : List ℕ) → q ≡ quoted (kept (lineOf kinds text pairs) from to)) → (cut : Bool) → cut ≡ (noted && block && not q) → Answered (ir.Positional r cut)
+      → (asked : Bool) → asked ≡ (noted && block) → (cut : Bool) → ((text pairs : List ℕ) → cut ≡ (asked && not (quoted (kept (lineOf kinds text pairs) from to)))) → Answered (ir.Positional r cut)
   unfolding irAs
-  ir-positional noted f r a p q b cut g =
-      let h : cut ≡ (noted && block && not (quoted (kept (lineOf kinds text pairs) from to))) = g ∙ ap (λ (x : Bool). noted && block && not x) (b text pairs) in (
+  ir-positional noted f r a p asked b cut g =
+      let h : cut ≡ (noted && block && not (quoted (kept (lineOf kinds text pairs) from to))) = g text pairs ∙ ap (λ (x : Bool). x && not (quoted (kept (lineOf kinds text pairs) from to))) b in (
         rw (a text pairs, h) (ap runsOf (read-as (Positional noted) f)),
         (rw (p .same text pairs, h) (read-as (Positional noted) f), part-in unquote kinds from to from to r (omega arith) (omega arith) p),
       )

@@ -5,11 +5,13 @@ use token::runs::quoted;
 use token::runs::run_of;
 use token::runs::unquote;
 ghost use mathlib.Core.Path.{_≡_};
-ghost use Prim.Native.Nat.{_≤_};
+ghost use mathlib.Core.Bool.{_&&_, not};
+ghost use mathlib.Core.List.{List};
+ghost use Prim.Native.Nat.{ℕ, _≤_};
 ghost use lib.ListN.{length};
 ghost use Rattle.token.specs.Line.{lineOf};
 ghost use Rattle.token.specs.LineLaws.{Lent};
-ghost use Rattle.token.specs.Run.{kept};
+ghost use Rattle.token.specs.Run.{kept, quoted};
 ghost use Rattle.attr_ir.specs.Ir.{attrIr, runsOf, tokensOf};
 ghost use Rattle.attr_ir.specs.Parts.{Bounded};
 
@@ -49,6 +51,18 @@ pub enum AttrIr {
     Shorthand(Run),
 }
 
+// Whether a positional is to be cut, of the tokens kept from `from` up to `to`: it is asked for, and no quotes are taken. Most are not asked to be
+// cut, and their ends are then not looked for.
+fn to_cut(kinds: &[u8], from: TokenPlace, to: TokenPlace, asked: bool) -> bool
+    requires { ⌜ (from .0 ≤ to .0) × (to .0 ≤ length (now kinds)) ⌝ }
+    ensures { λ r. ⌜ ((text pairs : List ℕ) → r ≡ (asked && not (quoted (kept (lineOf (now (kinds .entry)) text pairs) (from .0) (to .0))))) ⌝ }
+{
+    if !asked {
+        return false;
+    }
+    !quoted(kinds, from, to)
+}
+
 // An attribute by its runs, of the tokens kept from `from` up to `to`, which are trimmed; `block` says that the entry is the block entry.
 pub fn attr_ir<'a>(
     kinds: &'a [u8],
@@ -68,10 +82,10 @@ pub fn attr_ir<'a>(
     match reading {
         Reading::Shorthand => AttrIr::Shorthand(run_of(kinds, from, to)),
         Reading::Positional(noted) => {
-            let bare = !quoted(kinds, from, to);
+            let asked = look::both(noted, block);
             AttrIr::Positional {
                 run: unquote(kinds, from, to),
-                cut: look::both(look::both(noted, block), bare),
+                cut: to_cut(kinds, from, to, asked),
             }
         }
         Reading::Named => naming::parse_key_value_attr(kinds, text, pairs, from, to),

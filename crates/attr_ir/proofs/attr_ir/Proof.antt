@@ -17,7 +17,7 @@ use Rattle.attr_ir.proofs.attr_ir.Lts as lts
 use Rattle.attr_ir.proofs.look.both.Reads as both-reads
 use Rattle.attr_ir.proofs.look.look.Reads as look-reads
 use Rattle.attr_ir.proofs.naming.parse_key_value_attr.Reads as parse-key-value-attr-reads
-use Rattle.token.proofs.runs.quoted.Reads as quoted-reads
+use Rattle.attr_ir.proofs.to_cut.Reads as to-cut-reads
 use Rattle.token.proofs.runs.run_of.Reads as run-of-reads
 use Rattle.token.proofs.runs.unquote.Reads as unquote-reads
 
@@ -37,21 +37,17 @@ run-of-requires c κs = search needs
 enum-known-reading : tie.Need-enum-known-reading
 enum-known-reading c = search needs
 
--- src/lib.rt:68:25
-quoted-requires : tie.Need-quoted-requires
-quoted-requires c κs = search needs
-
--- src/lib.rt:70:22
-unquote-requires : tie.Need-unquote-requires
-unquote-requires c κs = search needs
-
--- src/lib.rt:71:33
+-- src/lib.rt:84:25
 both-requires : tie.Need-both-requires
 both-requires c κs = search needs
 
--- src/lib.rt:71:22
-both-requires-2 : tie.Need-both-requires-2
-both-requires-2 c κs = search needs
+-- src/lib.rt:86:22
+unquote-requires : tie.Need-unquote-requires
+unquote-requires c κs = search needs
+
+-- src/lib.rt:87:22
+to-cut-requires : tie.Need-to-cut-requires
+to-cut-requires c κs = search needs
 
 -- src/lib.rt:74:27
 enum-told-2 : tie.Need-enum-told-2
@@ -67,7 +63,7 @@ returns c = ir-shorthand _ _ _ _ _ _ _ (c .before .before .before .look .ensures
 
 -- src/lib.rt:50:1
 returns-2 : tie.Need-returns-2
-returns-2 c = ir-positional _ _ _ _ _ _ _ (c .before .before .before .before .before .before .before .look .ensures) (c .before .before .before .before .before .reading .given .0 .0) (c .before .before .before .before .before .reading .given .1) _ (c .before .before .unquote .ensures .0) (c .before .before .unquote .ensures .1) (c .before .before .before .quoted .result) (c .before .before .before .quoted .ensures) _ (c .both2 .ensures ∙ ap (λ (x : Bool). x && not (c .before .before .before .quoted .result)) (c .before .both .ensures))
+returns-2 c = ir-positional _ _ _ _ _ _ _ (c .before .before .before .before .before .before .look .ensures) (c .before .before .before .before .reading .given .0 .0) (c .before .before .before .before .reading .given .1) _ (c .before .unquote .ensures .0) (c .before .unquote .ensures .1) (c .before .before .both .result) (c .before .before .both .ensures) _ (c .to-cut .ensures)
 
 -- src/lib.rt:50:1
 returns-3 : tie.Need-returns-3
@@ -81,10 +77,9 @@ attr-ir-spec =
     enum-told
     run-of-requires
     enum-known-reading
-    quoted-requires
-    unquote-requires
     both-requires
-    both-requires-2
+    unquote-requires
+    to-cut-requires
     enum-told-2
     parse-key-value-attr-requires
     returns

@@ -83,7 +83,9 @@ fn read_list_in<'a, 'b, 'c>(
     let Closing::At(end) = closing else {
         return Answer::Refused(8);
     };
-    let written = list_rows(kinds, text, pairs, commas, n, end, block, rows);
+    // `text` and `pairs` are lent again: an address and a length, eight bytes each as they were written. Handed on as they are, both would be copied
+    // by one load of 16 bytes, which waits for the two writes to reach the cache.
+    let written = list_rows(kinds, &*text, &*pairs, commas, n, end, block, rows);
     Answer::Read {
         rows: written,
         consumed: end.0 + 1,

@@ -49,8 +49,8 @@ list-rows-requires : tie.Need-list-rows-requires
 list-rows-requires c κs = let w = end-is (c .before .before .before .before .before .before .before .before .before .before .before .before .before .before .before .before .args .kinds .now) (c .before .before .before .before .before .before .before .before .before .before .before .before .before .before .before .before .args .text .now) (c .before .before .before .before .before .before .before .before .before .before .before .before .before .before .before .before .args .pairs .now) (c .before .before .before .before .before .before .before .before .before .before .before .before .before .before .before .before .args .full) (c .before .before .before .before .before .closing-bracket .result) (c .before .before .before .before .before .closing-bracket .ensures) (c .before .before .before .before .before .before .before .before .before .before .before .before .before .before .before .before .pre .0 .some) (c .before .before .before .closing .given .0 .0) (c .before .before .before .closing .given .1) in (c .before .before .before .before .before .before .before .before .before .before .before .before .before .before .before .before .pre .0, ((omega arith, omega (arith, w .among), omega (arith, w .among, c .before .before .before .before .before .before .before .before .before .before .before .before .before .before .before .before .pre .1 .0)), list-commas (c .before .before .before .before .before .before .before .before .before .before .before .before .before .before .before .before .args .kinds .now) (c .before .before .before .before .before .before .before .before .before .before .before .before .before .before .before .before .args .text .now) (c .before .before .before .before .before .before .before .before .before .before .before .before .before .before .before .before .args .pairs .now) (c .before .before .before .before .before .before .before .before .before .before .before .before .before .before .before .before .args .full) (c .before .before .before .before .before .closing-bracket .result) (c .before .before .before .before .before .closing-bracket .ensures) (c .before .before .before .before .before .before .before .before .before .before .before .before .before .before .before .before .pre .0 .some) (c .before .before .before .closing .given .0 .0) (c .before .before .before .closing .given .1) (c .before .before .before .before .before .before .before .before .before .find-delimiters .last .1 .0) (c .before .before .before .before .before .before .before .before .before .find-delimiters .result .commas) (c .before .before .before .before .before .before .before .before .before .find-delimiters .ensures .1 .1 .0)))
 
 -- src/read.rt:72:19
-add-t21 : tie.Need-add-t21
-add-t21 c = let w = end-is (c .before .before .before .before .before .before .before .before .before .before .before .before .before .before .before .before .before .before .before .before .args .kinds .now) (c .before .before .before .before .before .before .before .before .before .before .before .before .before .before .before .before .before .before .before .before .args .text .now) (c .before .before .before .before .before .before .before .before .before .before .before .before .before .before .before .before .before .before .before .before .args .pairs .now) (c .before .before .before .before .before .before .before .before .before .before .before .before .before .before .before .before .before .before .before .before .args .full) (c .before .before .before .before .before .before .before .before .before .closing-bracket .result) (c .before .before .before .before .before .before .before .before .before .closing-bracket .ensures) (c .before .before .before .before .before .before .before .before .before .before .before .before .before .before .before .before .before .before .before .before .pre .0 .some) (c .before .before .before .before .before .before .before .closing .given .0 .0) (c .before .before .before .before .before .before .before .closing .given .1) in omega (arith, w .among, c .before .before .before .before .before .before .before .before .before .before .before .before .before .before .before .before .before .before .before .before .pre .0 .few)
+add-t25 : tie.Need-add-t25
+add-t25 c = let w = end-is (c .before .before .before .before .before .before .before .before .before .before .before .before .before .before .before .before .before .before .before .before .args .kinds .now) (c .before .before .before .before .before .before .before .before .before .before .before .before .before .before .before .before .before .before .before .before .args .text .now) (c .before .before .before .before .before .before .before .before .before .before .before .before .before .before .before .before .before .before .before .before .args .pairs .now) (c .before .before .before .before .before .before .before .before .before .before .before .before .before .before .before .before .before .before .before .before .args .full) (c .before .before .before .before .before .before .before .before .before .closing-bracket .result) (c .before .before .before .before .before .before .before .before .before .closing-bracket .ensures) (c .before .before .before .before .before .before .before .before .before .before .before .before .before .before .before .before .before .before .before .before .pre .0 .some) (c .before .before .before .before .before .before .before .closing .given .0 .0) (c .before .before .before .before .before .before .before .closing .given .1) in omega (arith, w .among, c .before .before .before .before .before .before .before .before .before .before .before .before .before .before .before .before .before .before .before .before .pre .0 .few)
 
 -- src/read.rt:49:1
 same-length-2 : tie.Need-same-length-2
@@ -75,7 +75,7 @@ read-list-in-spec =
     same-length
     returns
     list-rows-requires
-    add-t21
+    add-t25
     same-length-2
     same-length-3
     returns-2)

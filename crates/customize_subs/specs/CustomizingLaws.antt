@@ -1,16 +1,17 @@
 -- Laws of reading a part and of entering it, one for each way through the code.
 use Prim.Native.Nat.{ℕ, _+_, _-_, _≤_, _<_}
 use mathlib.Core.Path.{_≡_, refl, sym, ap, _∙_}
-use mathlib.Core.Bool.{Bool, true, false, cond, _&&_}
+use mathlib.Core.Bool.{Bool, true, false, cond, _&&_, false≢true}
 use mathlib.Core.List.{List, [], _∷_}
 use native.Mathlib.Omega.{arith}
-use borrow.Author.Tests.{eq-eqb, ne-eqb, lt-ltb, le-ltb, ltb-false}
+use borrow.Author.Tests.{eq-eqb, ne-eqb, lt-ltb, le-ltb, ltb-false, not-true}
 use lib.Dec.{ltb}
 use lib.ListN.{length, take, drop, getD}
 use lib.Seq.{getD-drop, getD-take, take-take}
 use Rattle.substitutions.specs.declared.Substitutions.{Substitutions}
 use Rattle.substitutions.specs.declared.Mode.{Mode}
-use Rattle.substitutions.specs.Moves.{refusalOf}
+use Rattle.substitutions.specs.Kinds.{flagged}
+use Rattle.substitutions.specs.Moves.{refusalOf, insertOf, removeOf}
 use Rattle.subs_names.specs.declared.Lookup.{Lookup}
 use Rattle.customize_subs.specs.declared.Strategy.{Strategy}
 use Rattle.customize_subs.specs.declared.Strategy.the-variants.{Insert, Prepend, Remove}
@@ -18,7 +19,14 @@ use Rattle.subs_names.specs.Names.{lookupOf}
 use Rattle.customize_subs.specs.Text.{split}
 use Rattle.customize_subs.specs.Customizing.{partOf, moveOf, entered, firstOf, lastOf, strategyOf, nameOf, enteredName, stepped, through, startOf, metaOf, metaRefusal}
 use Rattle.customize_subs.specs.TextLaws.{between-length, between-cons, parts-cons, parts-none}
-use Rattle.customize_subs.specs.Walks.{toComma, between, partsFrom}
+use Rattle.customize_subs.specs.Walks.{toComma, between, partsFrom, stays}
+
+-- A set that stays is what the move gives.
+pub stays-same : (m : Mode) (t : Strategy) (k : ℕ) (s : Substitutions) → stays t k s ≡ true → s ≡ moveOf m t k s
+unfolding insertOf removeOf
+stays-same m Insert k s e = rw e refl
+stays-same m Prepend k s e = absurd (false≢true e)
+stays-same m Remove k s e = rw (not-true (flagged k (s .flags)) e) refl
 
 -- The first and the last byte of a part, and what is left without it.
 module _ (a e : ℕ) (l : List ℕ) (lt : a < e) (le : e ≤ length l) where

@@ -1,10 +1,14 @@
--- Parts by their places in the text, as the code finds them. No public contract speaks of these: the laws tie them to `Text`
+-- Parts by their places in the text, as the code finds them, and what it tests of a move. No public contract speaks of these: the laws tie them to `Text`
 -- and `Customizing`.
 use Prim.Native.Nat.{ℕ, suc, _-_}
-use mathlib.Core.Bool.{cond}
+use mathlib.Core.Bool.{Bool, false, not, cond}
 use mathlib.Core.List.{List, [], _∷_}
 use lib.Dec.{eqb, leb}
 use lib.ListN.{length, take, drop}
+use Rattle.substitutions.specs.declared.Substitutions.{Substitutions}
+use Rattle.substitutions.specs.Kinds.{flagged}
+use Rattle.customize_subs.specs.declared.Strategy.{Strategy}
+use Rattle.customize_subs.specs.declared.Strategy.the-variants.{Insert, Prepend, Remove}
 use Rattle.customize_subs.specs.Text.{split}
 
 -- How many bytes stand before the first comma.
@@ -19,3 +23,9 @@ between a e l = take (e - a) (drop a l)
 -- The parts from a place on: none past the end.
 unfoldable pub partsFrom : ℕ → List ℕ → List (List ℕ)
 partsFrom at text = cond (leb at (length text)) (split (drop at text)) []
+
+-- A move that leaves the set as it is: an insert of what is in it, a remove of what is not.
+abbrev pub stays : Strategy → ℕ → Substitutions → Bool
+stays Insert k s = flagged k (s .flags)
+stays Prepend k s = false
+stays Remove k s = not (flagged k (s .flags))

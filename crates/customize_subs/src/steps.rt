@@ -5,6 +5,7 @@ use substitutions::Mode;
 use substitutions::Subs;
 use substitutions::Substitutions;
 use substitutions::insert_held;
+use substitutions::is_in;
 use substitutions::prepend_held;
 use substitutions::remove_held;
 ghost use mathlib.Core.Path.{_≡_};
@@ -13,9 +14,22 @@ ghost use mathlib.Core.List.{[], _∷_};
 ghost use Rattle.substitutions.specs.Kinds.{numberOf};
 ghost use Rattle.substitutions.specs.Held.{held};
 ghost use Rattle.customize_subs.specs.Customizing.{moveOf, verbatimOf, kindsOf, entered};
+ghost use Rattle.customize_subs.specs.Walks.{stays};
 
-// One kind.
-pub fn enter_kind(mode: Mode, strategy: Strategy, set: Substitutions, sub: Subs) -> Substitutions
+// Whether a move leaves the set as it is: an insert of what is in it, a remove of what is not.
+fn stays(strategy: Strategy, set: Substitutions, sub: Subs) -> bool
+    ensures { λ r. ⌜ r ≡ stays strategy (numberOf sub) set ⌝ }
+{
+    let there = is_in(set, sub);
+    match strategy {
+        Strategy::Insert => there,
+        Strategy::Prepend => false,
+        Strategy::Remove => !there,
+    }
+}
+
+// The move of one kind.
+fn move_kind(mode: Mode, strategy: Strategy, set: Substitutions, sub: Subs) -> Substitutions
     requires { ⌜ held set ≡ true ⌝ }
     ensures { λ r. ⌜ r ≡ moveOf mode strategy (numberOf sub) set ⌝ }
     ensures held { λ r. ⌜ held r ≡ true ⌝ }
@@ -25,6 +39,18 @@ pub fn enter_kind(mode: Mode, strategy: Strategy, set: Substitutions, sub: Subs)
         Strategy::Prepend => prepend_held(set, sub),
         Strategy::Remove => remove_held(set, sub),
     }
+}
+
+// One kind. A set that stays is handed back as it is; a move takes it apart and puts it together again.
+pub fn enter_kind(mode: Mode, strategy: Strategy, set: Substitutions, sub: Subs) -> Substitutions
+    requires { ⌜ held set ≡ true ⌝ }
+    ensures { λ r. ⌜ r ≡ moveOf mode strategy (numberOf sub) set ⌝ }
+    ensures held { λ r. ⌜ held r ≡ true ⌝ }
+{
+    if stays(strategy, set, sub) {
+        return set;
+    }
+    move_kind(mode, strategy, set, sub)
 }
 
 // Kinds 1 to 6.

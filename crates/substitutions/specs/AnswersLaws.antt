@@ -1,20 +1,21 @@
 -- What the code of the moves and of the refusals returns is what the definitions say: one law for each way through.
 use Prim.Native.Nat.{ℕ, zero, suc, _+_, _-_, _≤_, _<_}
 use mathlib.Core.Path.{_≡_, refl, sym}
-use mathlib.Core.Bool.{Bool, true, false, cond}
-use mathlib.Core.List.{List}
+use mathlib.Core.Bool.{Bool, true, false, cond, _&&_}
+use mathlib.Core.List.{List, [], _∷_}
 use native.Mathlib.Omega.{arith}
-use borrow.Author.Tests.{ne-eqb, lt-ltb, le-ltb}
+use borrow.Author.Tests.{ne-eqb, eqb-true, lt-ltb, le-ltb}
+use lib.Dec.{eqb}
 use lib.ListN.{length}
 use Rattle.substitutions.specs.declared.Substitutions.{Substitutions}
 use Rattle.substitutions.specs.declared.Mode.{Mode}
 use Rattle.substitutions.specs.declared.Mode.the-variants.{Port, Sheet}
 use Rattle.substitutions.specs.Kinds.{flagOf, flagged}
-use Rattle.substitutions.specs.Held.{held, sound}
+use Rattle.substitutions.specs.Held.{held, sound, empty}
 use Rattle.substitutions.specs.Moves.{set, filled, without, led, insertOf, removeOf, prependOf, refusalOf, answer}
-use Rattle.substitutions.specs.Walks.{few}
+use Rattle.substitutions.specs.KindsLaws.{and-left, and-right}
 use Rattle.substitutions.specs.HeldLaws.{held-is, sound-is, facts}
-use Rattle.substitutions.specs.Walks.{left, leftOver}
+use Rattle.substitutions.specs.Walks.{left, leftOver, few, normalPlaces}
 use Rattle.substitutions.specs.MovesLaws.{insert-held, remove-held, prepend-held}
 
 pub few-not : (f : ℕ) → (f ≡ 0 → ⊥) → (f ≡ 1 → ⊥) → (f ≡ 2 → ⊥) → (f ≡ 4 → ⊥) → (f ≡ 8 → ⊥) → (f ≡ 16 → ⊥) → (f ≡ 32 → ⊥) → (f ≡ 64 → ⊥)
@@ -30,6 +31,38 @@ left-big s h = rw (le-ltb (s .flags) 128 h)
 pub left-small : (s : Substitutions) → s .flags < 128 → left (s .flags) (s .places) ≡ leftOver s
 unfolding leftOver
 left-small s h = rw (lt-ltb (s .flags) 128 h)
+
+-- The normal set has no flag left over.
+normal-places : (ps : List ℕ) → length ps ≡ 7 → normalPlaces ps ≡ true → ps ≡ 1 ∷ 2 ∷ 3 ∷ 4 ∷ 5 ∷ 6 ∷ 0 ∷ []
+unfolding normalPlaces
+normal-places [] h e = absurd (omega (arith, h))
+normal-places (a ∷ []) h e = absurd (omega (arith, h))
+normal-places (a ∷ b ∷ []) h e = absurd (omega (arith, h))
+normal-places (a ∷ b ∷ c ∷ []) h e = absurd (omega (arith, h))
+normal-places (a ∷ b ∷ c ∷ d ∷ []) h e = absurd (omega (arith, h))
+normal-places (a ∷ b ∷ c ∷ d ∷ f ∷ []) h e = absurd (omega (arith, h))
+normal-places (a ∷ b ∷ c ∷ d ∷ f ∷ g ∷ []) h e = absurd (omega (arith, h))
+normal-places (a ∷ b ∷ c ∷ d ∷ f ∷ g ∷ i ∷ []) h e =
+    let e6 = and-left (eqb a 1 && eqb b 2 && eqb c 3 && eqb d 4 && eqb f 5 && eqb g 6) (eqb i 0) e in
+    let e5 = and-left (eqb a 1 && eqb b 2 && eqb c 3 && eqb d 4 && eqb f 5) (eqb g 6) e6 in
+    let e4 = and-left (eqb a 1 && eqb b 2 && eqb c 3 && eqb d 4) (eqb f 5) e5 in
+    let e3 = and-left (eqb a 1 && eqb b 2 && eqb c 3) (eqb d 4) e4 in
+    let e2 = and-left (eqb a 1 && eqb b 2) (eqb c 3) e3 in
+    rw (
+      eqb-true a 1 (and-left (eqb a 1) (eqb b 2) e2),
+      eqb-true b 2 (and-right (eqb a 1) (eqb b 2) e2),
+      eqb-true c 3 (and-right (eqb a 1 && eqb b 2) (eqb c 3) e3),
+      eqb-true d 4 (and-right (eqb a 1 && eqb b 2 && eqb c 3) (eqb d 4) e4),
+      eqb-true f 5 (and-right (eqb a 1 && eqb b 2 && eqb c 3 && eqb d 4) (eqb f 5) e5),
+      eqb-true g 6 (and-right (eqb a 1 && eqb b 2 && eqb c 3 && eqb d 4 && eqb f 5) (eqb g 6) e6),
+      eqb-true i 0 (and-right (eqb a 1 && eqb b 2 && eqb c 3 && eqb d 4 && eqb f 5 && eqb g 6) (eqb i 0) e),
+    )
+    refl
+normal-places (a ∷ b ∷ c ∷ d ∷ f ∷ g ∷ i ∷ j ∷ ps) h e = absurd (omega (arith, h))
+
+pub normal-left : (s : Substitutions) → length (s .places) ≡ 7 → s .flags ≡ 63 → normalPlaces (s .places) ≡ true → 0 ≡ leftOver s
+unfolding leftOver left empty flagged
+normal-left s seven e n = rw (e, normal-places (s .places) seven n) refl
 
 -- The refusals, by what is left over.
 module _ (s : Substitutions) (seven : length (s .places) ≡ 7) where

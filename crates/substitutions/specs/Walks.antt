@@ -4,7 +4,7 @@ use Prim.Native.Nat.{ℕ, suc, _-_}
 use mathlib.Core.Bool.{Bool, cond, _&&_, _||_}
 use mathlib.Core.List.{List, [], _∷_, _++_}
 use lib.Dec.{eqb, leb, ltb}
-use lib.ListN.{take, drop}
+use lib.ListN.{take, drop, getD}
 use Rattle.substitutions.specs.declared.Substitutions.{Substitutions}
 use Rattle.substitutions.specs.Kinds.{flagOf, flagged}
 use Rattle.substitutions.specs.Held.{empty}
@@ -23,6 +23,12 @@ pushed x k (p ∷ ps) = x ∷ cond (eqb p k) ps (pushed p k ps)
 unfoldable pub left : ℕ → List ℕ → ℕ
 left f [] = f
 left f (p ∷ ps) = cond (eqb p 0) (cond (empty ps) f 255) (cond (leb p 7 && flagged p f) (left (f - flagOf p) ps) 255)
+
+-- The places of the normal set.
+unfoldable pub normalPlaces : List ℕ → Bool
+normalPlaces ps =
+    eqb (getD ps 0 0) 1 && eqb (getD ps 1 0) 2 && eqb (getD ps 2 0) 3 && eqb (getD ps 3 0) 4 && eqb (getD ps 4 0) 5 && eqb (getD ps 5 0) 6
+    && eqb (getD ps 6 0) 0
 
 -- A byte with at most one of the seven flags, and no bit 7.
 unfoldable pub few : ℕ → Bool

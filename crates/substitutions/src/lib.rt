@@ -9,11 +9,12 @@ use crate::places::fill;
 use crate::places::lead;
 use crate::places::take_out;
 use crate::rules::at_most_one;
+use crate::rules::is_normal;
 use crate::rules::take_flags;
 ghost use mathlib.Core.Path.{_≡_};
 ghost use mathlib.Core.Bool.{true};
 ghost use Prim.Native.Nat.{_≤_, _<_};
-ghost use Rattle.substitutions.specs.Kinds.{numberOf};
+ghost use Rattle.substitutions.specs.Kinds.{numberOf, flagged};
 ghost use Rattle.substitutions.specs.Held.{held, sound};
 ghost use Rattle.substitutions.specs.Moves.{empty-set, room, insertOf, removeOf, prependOf, refusalOf, refusedWith, insertAnswer, removeAnswer, prependAnswer};
 ghost use Rattle.substitutions.specs.Walks.{leftOver};
@@ -63,6 +64,13 @@ pub fn number(sub: Subs) -> u8
     }
 }
 
+// Whether the set has the flag of a kind.
+pub fn is_in(set: Substitutions, sub: Subs) -> bool
+    ensures { λ r. ⌜ r ≡ flagged (numberOf sub) (set .flags) ⌝ }
+{
+    is_flagged(number(sub), set.flags)
+}
+
 // The places that insert may fill.
 fn places_to_fill(mode: Mode) -> usize
     ensures { λ r. ⌜ r ≡ room mode ⌝ }
@@ -94,6 +102,12 @@ fn left_over(set: Substitutions) -> u8
         return 255;
     }
     let places = set.places;
+    // the set that most blocks have, known without a walk
+    if flags == 63 {
+        if is_normal(places) {
+            return 0;
+        }
+    }
     take_flags(places, flags)
 }
 

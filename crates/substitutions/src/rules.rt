@@ -5,8 +5,7 @@ ghost use mathlib.Core.Path.{_≡_};
 ghost use Prim.Native.Nat.{_≤_, _<_};
 ghost use lib.ListN.{drop};
 ghost use Rattle.substitutions.specs.Held.{empty};
-ghost use Rattle.substitutions.specs.Walks.{few};
-ghost use Rattle.substitutions.specs.Walks.{left};
+ghost use Rattle.substitutions.specs.Walks.{few, left, normalPlaces};
 
 // Whether all places from `from` on are empty.
 pub fn rest_empty(places: [u8; 7], from: usize) -> bool
@@ -21,6 +20,31 @@ pub fn rest_empty(places: [u8; 7], from: usize) -> bool
         i = i + 1;
     }
     true
+}
+
+// Whether the places are those of the normal set.
+pub fn is_normal(places: [u8; 7]) -> bool
+    ensures { λ r. ⌜ r ≡ normalPlaces places ⌝ }
+{
+    if places[0] != 1 {
+        return false;
+    }
+    if places[1] != 2 {
+        return false;
+    }
+    if places[2] != 3 {
+        return false;
+    }
+    if places[3] != 4 {
+        return false;
+    }
+    if places[4] != 5 {
+        return false;
+    }
+    if places[5] != 6 {
+        return false;
+    }
+    places[6] == 0
 }
 
 // Each place takes its kind's flag: the flags left, or 255 at a place that breaks a rule.

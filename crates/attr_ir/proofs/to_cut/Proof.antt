@@ -1,19 +1,11 @@
+-- `to_cut` looks for quotes only where a cut is asked for. Assumes nothing.
 use borrow.Author.Needs.{needs}
-use Prim.Native.Nat.{ℕ, zero, suc, _+_, _*_, _-_, _≤_, _<_}
-use native.Mathlib.Omega.{arith}
-use native.Mathlib.Numerals.{add-one}
-use mathlib.Core.Bool.{Bool, true, false, cond, not, _&&_, _||_}
-use mathlib.Core.Path.{_≡_, refl, sym, ap, subst, _∙_}
-use mathlib.Core.Logic.{⊎-elim}
-use mathlib.Core.List.{List, [], _∷_, _++_}
-use lib.Dec.{eqb}
-use lib.ListN.{length, getD, take, drop, set, length-set}
+use Prim.Native.Nat.{_-_}
+use mathlib.Core.Bool.{not}
+use mathlib.Core.Path.{refl, ap}
 use borrow.Author.Tests.{not-true, not-false}
 use Rattle.attr_ir.proofs.to_cut.Statement.{statement}
 use Rattle.attr_ir.proofs.to_cut.Tie as tie
-use Rattle.attr_ir.proofs.to_cut.Reads as reads
-use Rattle.attr_ir.proofs.to_cut.Lts as lts
-use Rattle.token.proofs.runs.quoted.Reads as quoted-reads
 
 -- src/lib.rt:61:9
 returns : tie.Need-returns

@@ -1,46 +1,24 @@
--- `enter_kind` is the move that was matched. Assumes nothing.
+-- `enter_kind` is the set given where it stays, else the move. Assumes nothing.
 use borrow.Author.Needs.{needs}
 use Prim.Native.Nat.{_-_}
+use mathlib.Core.Path.{sym, _∙_}
+use Rattle.customize_subs.specs.CustomizingLaws.{stays-same}
 use Rattle.customize_subs.proofs.steps.enter_kind.Statement.{statement}
 use Rattle.customize_subs.proofs.steps.enter_kind.Tie as tie
 
-enum-told : tie.Need-enum-told
-enum-told c = search needs
-
-insert-held-requires : tie.Need-insert-held-requires
-insert-held-requires c κs = search needs
-
-enum-told-2 : tie.Need-enum-told-2
-enum-told-2 c = search needs
-
-prepend-held-requires : tie.Need-prepend-held-requires
-prepend-held-requires c κs = search needs
-
-enum-told-3 : tie.Need-enum-told-3
-enum-told-3 c = search needs
-
-remove-held-requires : tie.Need-remove-held-requires
-remove-held-requires c κs = search needs
+stays-requires : tie.Need-stays-requires
+stays-requires c κs = search needs
 
 returns : tie.Need-returns
-returns c = (rw (c .before .enum-told .given .1) (c .insert-held .ensures .0), c .insert-held .ensures .1)
+returns c =
+    let a = c .before .before .args in
+    (stays-same (a .mode) (a .strategy) _ (a .set) (sym (c .before .stays .ensures) ∙ c .if1 .taken), c .before .before .pre)
+
+move-kind-requires : tie.Need-move-kind-requires
+move-kind-requires c κs = search needs
 
 returns-2 : tie.Need-returns-2
-returns-2 c = (rw (c .before .enum-told2 .given .1) (c .prepend-held .ensures .0), c .prepend-held .ensures .1)
-
-returns-3 : tie.Need-returns-3
-returns-3 c = (rw (c .before .enum-told3 .given .1) (c .remove-held .ensures .0), c .remove-held .ensures .1)
+returns-2 c = search needs
 
 pub enter-kind-spec : {M : Type 1} → statement M
-enter-kind-spec =
-    tie.close
-    (tie.spec
-    enum-told
-    insert-held-requires
-    enum-told-2
-    prepend-held-requires
-    enum-told-3
-    remove-held-requires
-    returns
-    returns-2
-    returns-3)
+enter-kind-spec = tie.close (tie.spec stays-requires returns move-kind-requires returns-2)

@@ -44,6 +44,11 @@ pub fn has_modifier(text: &[u8]) -> bool
     let mut i: usize = 0;
     while i < text.len() {
         let b = text[i];
+        // letters, which are most bytes of a subs text, are over both
+        if b > 45 {
+            i = i + 1;
+            continue;
+        }
         if b == 43 {
             return true;
         }

@@ -21,18 +21,6 @@ loop-holds c = search needs
 shared-slice-read-b : tie.Need-shared-slice-read-b Inv-loop μ-loop
 shared-slice-read-b c = omega arith
 
-returns : tie.Need-returns Inv-loop μ-loop
-returns c =
-    let l = c .before .before .before .loop in
-    let a = c .before .before .before .before .args in
-    modified-plus (a .text .now) (l .i) (omega arith) (c .if1 .taken) ∙ l .inv .1
-
-returns-2 : tie.Need-returns-2 Inv-loop μ-loop
-returns-2 c =
-    let l = c .before .before .before .before .loop in
-    let a = c .before .before .before .before .before .args in
-    modified-minus (a .text .now) (l .i) (omega arith) (c .if2 .taken) ∙ l .inv .1
-
 add-i : tie.Need-add-i Inv-loop μ-loop
 add-i c = omega arith
 
@@ -41,9 +29,33 @@ loop-less c = omega arith
 
 loop-again : tie.Need-loop-again Inv-loop μ-loop
 loop-again c =
+    let l = c .before .before .before .loop in
+    let a = c .before .before .before .before .args in
+    (omega arith, modified-next (a .text .now) (l .i) (omega arith) (λ e. absurd (omega (arith, e, c .if1 .taken))) (λ e. absurd (omega (arith, e, c .if1 .taken))) ∙ l .inv .1)
+
+returns : tie.Need-returns Inv-loop μ-loop
+returns c =
     let l = c .before .before .before .before .loop in
     let a = c .before .before .before .before .before .args in
-    (omega arith, modified-next (a .text .now) (l .i) (omega arith) (c .before .if1 .left) (c .if2 .left) ∙ l .inv .1)
+    modified-plus (a .text .now) (l .i) (omega arith) (c .if2 .taken) ∙ l .inv .1
+
+returns-2 : tie.Need-returns-2 Inv-loop μ-loop
+returns-2 c =
+    let l = c .before .before .before .before .before .loop in
+    let a = c .before .before .before .before .before .before .args in
+    modified-minus (a .text .now) (l .i) (omega arith) (c .if3 .taken) ∙ l .inv .1
+
+add-i-2 : tie.Need-add-i-2 Inv-loop μ-loop
+add-i-2 c = omega arith
+
+loop-less-2 : tie.Need-loop-less-2 Inv-loop μ-loop
+loop-less-2 c = omega arith
+
+loop-again-2 : tie.Need-loop-again-2 Inv-loop μ-loop
+loop-again-2 c =
+    let l = c .before .before .before .before .before .loop in
+    let a = c .before .before .before .before .before .before .args in
+    (omega arith, modified-next (a .text .now) (l .i) (omega arith) (c .before .if2 .left) (c .if3 .left) ∙ l .inv .1)
 
 returns-3 : tie.Need-returns-3 Inv-loop μ-loop
 returns-3 c =
@@ -59,9 +71,12 @@ has-modifier-spec =
     μ-loop
     loop-holds
     shared-slice-read-b
-    returns
-    returns-2
     add-i
     loop-less
     loop-again
+    returns
+    returns-2
+    add-i-2
+    loop-less-2
+    loop-again-2
     returns-3)

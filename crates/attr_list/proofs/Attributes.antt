@@ -1,48 +1,62 @@
 -- The loop over the attributes, with the commas in a lent slice: the first n of `commas` are those that part.
 use Prim.Native.Nat.{ℕ, suc, _+_, _*_, _-_, _≤_, _<_}
 use native.Mathlib.Omega.{arith}
-use mathlib.Core.Bool.{Bool, false}
+use borrow.Author.Tests.{eqb-true}
+use mathlib.Core.Bool.{Bool, true, false, _&&_, false≢true}
 use mathlib.Core.Path.{_≡_, refl, sym, ap, subst, _∙_}
 use mathlib.Core.List.{List, [], _∷_}
+use lib.Dec.{eqb}
 use lib.ListN.{length, getD, take}
-use lib.Seq.{sets, getD-take, length-take-le}
-use Rattle.token.specs.Line.{Line}
-use Rattle.token.specs.Run.{kept, emptyRun, trim, trimStart, trimEnd}
-use Rattle.token.specs.Kept.{kept-none}
+use lib.Seq.{getD-take, length-take-le}
+use Rattle.token.specs.Kind.{word}
+use Rattle.token.specs.Line.{Line, tokenAt, lexemeAt}
+use Rattle.token.specs.Run.{kept, run, emptyRun, runOf, lastOf, trim, trimStart, trimEnd, leave, quoted, unquote}
+use Rattle.token.specs.Kept.{kept-none, kept-one}
 use Rattle.row.specs.declared.Row.{Row}
-use Rattle.row.specs.Row.{width, numbers, oneRun, emptyPositional, withRows}
-use Rattle.row.specs.Laws.{Wrote, wrote-one}
+use Rattle.row.specs.Row.{width, oneRun, emptyPositional, positional, withRows}
+use Rattle.row.specs.Laws.{Wrote}
 use Rattle.delimiters.specs.Delimit.{dividing, parted}
 use Rattle.attribute.specs.declared.Written.{Written}
-use Rattle.attribute.specs.Attribute as one
-use Rattle.attribute.specs.Attribute.{attribute, reading, oneRow}
+use Rattle.attr_ir.specs.Look.{look, sight}
+use Rattle.attr_ir.specs.Ir.{attrIr, irAs}
+use Rattle.attribute.specs.Attribute.{attribute, reading, irRead, oneRow}
 use Rattle.attribute.specs.Laws.{again}
 use Rattle.attribute.specs.Parts.{written}
 use Rattle.attr_list.specs.Reading.{rowsFrom, lastBegins}
 use Rattle.attr_list.specs.Laws.{Listing, listing-comma, listing-end, listing-next, listing-last}
 
--- ---- an attribute of no tokens
+-- ---- an attribute of no tokens, and one of one Word: the row that is written for it
 
-pub none-read : (block has : Bool) → attribute block has [] ≡ oneRow has emptyPositional
+none-read : (block has : Bool) → attribute block has [] ≡ oneRow has emptyPositional
 unfolding reading trim trimStart trimEnd
 none-read block has = again block has []
 
--- the row that is written for it, and what is then answered
-module _ (block has : Bool) (l : Line) (from to : ℕ) (e : from ≡ to) (row : Row) (is : row ≡ oneRun 1 emptyRun) (given : List ℕ) (at : ℕ) where
-  none-rows : attribute block has (kept l from to) ≡ oneRow has row
-  none-rows =
-      ap (attribute block has) (kept-none l from to (omega (arith, e)))
-      ∙ none-read block has
-      ∙ ap (oneRow has) (sym is)
+pub none-row : (block has : Bool) (l : Line) (from to : ℕ) → from ≡ to → (row : Row) → row ≡ oneRun 1 emptyRun → oneRow has row ≡ attribute block has (kept l from to)
+none-row block has l from to e row is = ap (oneRow has) is ∙ sym (ap (attribute block has) (kept-none l from to (omega (arith, e))) ∙ none-read block has)
 
-  pub none-written : (r : Written) → r .rows ≡ at + 1 → r .id ≡ has → r ≡ written at (attribute block has (kept l from to))
-  none-written r n i = rw none-rows (written-is r n i)
-    where
-      written-is : (r : Written) → r .rows ≡ at + 1 → r .id ≡ has → r ≡ record { rows = at + 1; id = has }
-      written-is r n i = rw (← n, ← i) refl
+word-read : (block has : Bool) (p : ℕ) (bs : List ℕ) → attribute block has (record { place = p; kind = word; lexeme = bs } ∷ []) ≡ oneRow has (positional (run p (suc (p - p))))
+unfolding reading trim trimStart trimEnd leave attrIr look sight irAs quoted unquote irRead runOf lastOf
+word-read block has p bs = again block has (record { place = p; kind = word; lexeme = bs } ∷ [])
 
-  pub none-buffer : (left : List ℕ) → left ≡ sets given (width * at) (numbers row) → left ≡ withRows given at (attribute block has (kept l from to) .rows)
-  none-buffer left f = f ∙ wrote-one given at row .buffer ∙ ap (λ (d : one.Read). withRows given at (d .rows)) (sym none-rows)
+word-kept : (l : Line) (p : ℕ) → getD (l .kinds) p 0 ≡ word → kept l p (p + 1) ≡ record { place = p; kind = word; lexeme = lexemeAt l p } ∷ []
+unfolding tokenAt
+word-kept l p e = kept-one l p (λ z. absurd (omega (arith, e, z))) ∙ rw e refl
+
+both-true : (a b : Bool) → a && b ≡ true → (a ≡ true) × (b ≡ true)
+both-true true b e = (refl, e)
+both-true false b e = absurd (false≢true e)
+
+pub word-row : (block has : Bool) (l : Line) (from to : ℕ) → (eqb to (from + 1) && eqb (getD (l .kinds) from 0) word) ≡ true → (row : Row) → row ≡ oneRun 2 (run from 1) → oneRow has row ≡ attribute block has (kept l from to)
+word-row block has l from to t row is =
+    let w = both-true (eqb to (from + 1)) (eqb (getD (l .kinds) from 0) word) t in
+    let one : suc (from - from) ≡ 1 = omega arith in
+    ap (oneRow has) is
+    ∙ sym (
+    ap (λ (x : ℕ). attribute block has (kept l from x)) (eqb-true to (from + 1) (w .0))
+    ∙ ap (attribute block has) (word-kept l from (eqb-true (getD (l .kinds) from 0) word (w .1)))
+    ∙ word-read block has from (lexemeAt l from)
+    ∙ ap (λ (n : ℕ). oneRow has (positional (run from n))) one
+    )
 
 -- ---- where the last attribute begins
 

@@ -1,24 +1,29 @@
 // The attributes of a list: where the last ends, and their rows.
 use attribute::Written;
 use attribute::parse_attr;
+use attribute::single::put_one;
 use closing::Closing;
 use closing::last_bracket;
 use closing::next_bracket;
 use row::one_run;
-use row::put_row;
 use row::tag::EMPTY_POSITIONAL;
+use row::tag::POSITIONAL;
 use token::Run;
 use token::TokenPlace;
+use token::kind::WORD;
 ghost use mathlib.Core.Path.{_≡_};
-ghost use mathlib.Core.Bool.{false};
+ghost use mathlib.Core.Bool.{false, _&&_};
 ghost use Prim.Native.Nat.{_+_, _*_, _-_, _≤_, _<_};
+ghost use lib.Dec.{eqb};
 ghost use lib.ListN.{length, take};
+ghost use Rattle.token.specs.Kind.{word};
 ghost use Rattle.token.specs.Line.{lineOf};
 ghost use Rattle.token.specs.LineLaws.{Lent};
 ghost use Rattle.token.specs.Run.{kept};
 ghost use Rattle.row.specs.Row.{width, withRows};
 ghost use Rattle.attribute.specs.Attribute.{attribute};
 ghost use Rattle.attribute.specs.Parts.{written};
+ghost use Rattle.delimiters.specs.Count.{kindAt};
 ghost use Rattle.delimiters.specs.Delimit.{dividing, parted};
 ghost use Rattle.delimiters.specs.Divide.{Ascending};
 ghost use Rattle.attr_list.specs.Reading.{closing, rowsFrom};
@@ -44,7 +49,19 @@ pub fn closing_bracket<'a>(kinds: &'a [u8], commas: &'a [u16], n: usize, full: b
     next_bracket(kinds, TokenPlace(last + 1))
 }
 
-// Writes the rows of the attribute from `from` up to `to`, as `parse_attr` does; one of no tokens is not looked at.
+// Whether the tokens from `from` up to `to` are one Word.
+fn one_word(kinds: &[u8], from: TokenPlace, to: TokenPlace) -> bool
+    requires { ⌜ (from .0 < to .0) × (to .0 ≤ length (now kinds)) ⌝ }
+    ensures { λ r. ⌜ r ≡ (eqb (to .0) (from .0 + 1) && eqb (kindAt (now (kinds .entry)) (from .0)) word) ⌝ }
+{
+    let i = from.0;
+    if to.0 != i + 1 {
+        return false;
+    }
+    kinds[i] == WORD
+}
+
+// Writes the rows of the attribute from `from` up to `to`, as `parse_attr` does; one of no tokens, or of one Word, is not looked at further.
 fn attr_rows<'a, 'b>(
     kinds: &'a [u8],
     text: &'a [u8],
@@ -67,11 +84,14 @@ fn attr_rows<'a, 'b>(
             place: TokenPlace(0),
             count: 0,
         };
-        put_row(rows, at, one_run(EMPTY_POSITIONAL, none));
-        return Written {
-            rows: at + 1,
-            id: has,
+        return put_one(rows, at, one_run(EMPTY_POSITIONAL, none), has);
+    }
+    if one_word(kinds, from, to) {
+        let word = Run {
+            place: from,
+            count: 1,
         };
+        return put_one(rows, at, one_run(POSITIONAL, word), has);
     }
     parse_attr(kinds, text, pairs, from, to, block, has, rows, at)
 }

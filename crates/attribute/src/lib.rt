@@ -36,7 +36,7 @@ ghost use Rattle.attribute.specs.Parts.{written};
 
 mod groups;
 mod shorthand;
-mod single;
+pub mod single;
 mod symbols;
 
 // How many rows are written, and whether the list then has an id.

@@ -1,67 +1,77 @@
--- `attr_rows` writes what `parse_attr` does: an attribute of no tokens is one row of tag 1. Assumes nothing.
+-- `attr_rows` writes what `parse_attr` does: an attribute of no tokens is one row of tag 1, one of one Word a row of tag 2. Assumes nothing.
 use borrow.Author.Needs.{needs}
-use Prim.Native.Nat.{ℕ, zero, suc, _+_, _*_, _-_, _≤_, _<_}
+use Prim.Native.Nat.{_+_, _*_, _-_, _≤_}
 use native.Mathlib.Omega.{arith}
-use native.Mathlib.Numerals.{add-one}
-use mathlib.Core.Bool.{Bool, true, false, cond, not, _&&_, _||_}
-use mathlib.Core.Path.{_≡_, refl, sym, ap, subst, _∙_}
-use mathlib.Core.Logic.{⊎-elim}
-use mathlib.Core.List.{List, [], _∷_, _++_}
-use lib.Dec.{eqb}
-use lib.ListN.{length, getD, take, drop, set, length-set}
-use borrow.Author.Tests.{eq-eqb, ne-eqb, lt-ltb, le-ltb, le-leb, lt-leb}
-use Rattle.row.specs.Row.{Fits}
+use mathlib.Core.Path.{sym, subst, _∙_}
+use lib.ListN.{length}
 use Rattle.token.specs.Line.{lineOf}
-use Rattle.attr_list.proofs.Attributes.{none-written, none-buffer}
+use Rattle.row.specs.Row.{Fits}
+use Rattle.attribute.proofs.Whole.{all-told}
+use Rattle.attr_list.proofs.Attributes.{none-row, word-row}
 use Rattle.attr_list.proofs.list.attr_rows.Statement.{statement}
 use Rattle.attr_list.proofs.list.attr_rows.Tie as tie
-use Rattle.attr_list.proofs.list.attr_rows.Reads as reads
-use Rattle.attr_list.proofs.list.attr_rows.Lts as lts
-use Rattle.attribute.proofs.parse_attr.Reads as parse-attr-reads
-use Rattle.row.proofs.one_run.Reads as one-run-reads
-use Rattle.row.proofs.put_row.Reads as put-row-reads
 
--- src/list.rt:70:27
+-- src/list.rt:87:34
 one-run-requires : tie.Need-one-run-requires
 one-run-requires c κs = search needs
 
--- src/list.rt:70:9
-put-row-requires : tie.Need-put-row-requires
-put-row-requires c κs = (omega (arith, c .before .before .before .before .before .before .before .before .before .pre .1 .2), subst Fits (sym (c .one-run .ensures)) (record { first-place = omega arith; first-count = omega arith; second-place = omega arith; second-count = omega arith }))
+-- src/list.rt:87:9
+put-one-requires : tie.Need-put-one-requires
+put-one-requires c κs = (omega (arith, c .before .before .before .before .before .before .before .before .before .pre .1 .2), subst Fits (sym (c .one-run .ensures)) (record { first-place = omega arith; first-count = omega arith; second-place = omega arith; second-count = omega arith }))
 
--- src/list.rt:72:19
-add-t17 : tie.Need-add-t17
-add-t17 c = search needs
-
--- src/list.rt:71:9
+-- src/list.rt:87:9
 same-length : tie.Need-same-length
 same-length c = search needs
 
--- src/list.rt:71:9
+-- src/list.rt:87:9
 returns : tie.Need-returns
-returns c = (none-written (c .before .before .before .before .before .before .before .before .before .before .before .before .args .block) (c .before .before .before .before .before .before .before .before .before .before .before .before .args .has) (lineOf (c .before .before .before .before .before .before .before .before .before .before .before .before .args .kinds .now) (c .before .before .before .before .before .before .before .before .before .before .before .before .args .text .now) (c .before .before .before .before .before .before .before .before .before .before .before .before .args .pairs .now)) (c .before .before .before .before .before .before .before .before .before .before .before .before .args .from .0) (c .before .before .before .before .before .before .before .before .before .before .before .before .args .to .0) (c .before .before .before .before .before .if1 .taken) (c .before .before .before .one-run .result) (c .before .before .before .one-run .ensures) (c .before .before .before .before .before .before .before .before .before .before .before .before .args .rows .now) (c .before .before .before .before .before .before .before .before .before .before .before .before .args .at) _ refl refl, (none-buffer (c .before .before .before .before .before .before .before .before .before .before .before .before .args .block) (c .before .before .before .before .before .before .before .before .before .before .before .before .args .has) (lineOf (c .before .before .before .before .before .before .before .before .before .before .before .before .args .kinds .now) (c .before .before .before .before .before .before .before .before .before .before .before .before .args .text .now) (c .before .before .before .before .before .before .before .before .before .before .before .before .args .pairs .now)) (c .before .before .before .before .before .before .before .before .before .before .before .before .args .from .0) (c .before .before .before .before .before .before .before .before .before .before .before .before .args .to .0) (c .before .before .before .before .before .if1 .taken) (c .before .before .before .one-run .result) (c .before .before .before .one-run .ensures) (c .before .before .before .before .before .before .before .before .before .before .before .before .args .rows .now) (c .before .before .before .before .before .before .before .before .before .before .before .before .args .at) _ (c .before .before .put-row .ensures), omega arith))
+returns c = all-told _ (c .before .before .before .before .before .before .before .before .before .before .before .before .args .at) _ _ _ _ _ (c .before .before .put-one .ensures) (none-row (c .before .before .before .before .before .before .before .before .before .before .before .before .args .block) (c .before .before .before .before .before .before .before .before .before .before .before .before .args .has) (lineOf (c .before .before .before .before .before .before .before .before .before .before .before .before .args .kinds .now) (c .before .before .before .before .before .before .before .before .before .before .before .before .args .text .now) (c .before .before .before .before .before .before .before .before .before .before .before .before .args .pairs .now)) (c .before .before .before .before .before .before .before .before .before .before .before .before .args .from .0) (c .before .before .before .before .before .before .before .before .before .before .before .before .args .to .0) (c .before .before .before .before .before .if1 .taken) _ (c .before .before .before .one-run .ensures)) (omega (arith, c .before .before .put-one .ensures .wrote .count))
 
--- src/list.rt:76:5
-parse-attr-requires : tie.Need-parse-attr-requires
-parse-attr-requires c κs = search needs
+-- src/list.rt:89:8
+one-word-requires : tie.Need-one-word-requires
+one-word-requires c κs = search needs
 
--- src/list.rt:48:1
+-- src/list.rt:94:34
+one-run-requires-2 : tie.Need-one-run-requires-2
+one-run-requires-2 c κs = search needs
+
+-- src/list.rt:94:9
+put-one-requires-2 : tie.Need-put-one-requires-2
+put-one-requires-2 c κs = (omega (arith, c .before .before .before .before .before .before .before .before .before .before .before .pre .1 .2), subst Fits (sym (c .one-run2 .ensures)) (record { first-place = omega (arith, c .before .before .before .before .before .before .before .before .before .before .before .pre .0 .few, c .before .before .before .before .before .before .before .before .before .before .before .pre .1 .0, c .before .before .before .before .before .before .before .before .before .before .before .pre .1 .1); first-count = omega arith; second-place = omega arith; second-count = omega arith }))
+
+-- src/list.rt:94:9
 same-length-2 : tie.Need-same-length-2
 same-length-2 c = search needs
 
--- src/list.rt:48:1
+-- src/list.rt:94:9
 returns-2 : tie.Need-returns-2
-returns-2 c = search needs
+returns-2 c = all-told _ (c .before .before .before .before .before .before .before .before .before .before .before .before .before .before .args .at) _ _ _ _ _ (c .before .before .put-one2 .ensures) (word-row (c .before .before .before .before .before .before .before .before .before .before .before .before .before .before .args .block) (c .before .before .before .before .before .before .before .before .before .before .before .before .before .before .args .has) (lineOf (c .before .before .before .before .before .before .before .before .before .before .before .before .before .before .args .kinds .now) (c .before .before .before .before .before .before .before .before .before .before .before .before .before .before .args .text .now) (c .before .before .before .before .before .before .before .before .before .before .before .before .before .before .args .pairs .now)) (c .before .before .before .before .before .before .before .before .before .before .before .before .before .before .args .from .0) (c .before .before .before .before .before .before .before .before .before .before .before .before .before .before .args .to .0) (sym (c .before .before .before .before .before .before .one-word .ensures) ∙ c .before .before .before .before .before .if2 .taken) _ (c .before .before .before .one-run2 .ensures)) (omega (arith, c .before .before .put-one2 .ensures .wrote .count))
+
+-- src/list.rt:96:5
+parse-attr-requires : tie.Need-parse-attr-requires
+parse-attr-requires c κs = search needs
+
+-- src/list.rt:65:1
+same-length-3 : tie.Need-same-length-3
+same-length-3 c = search needs
+
+-- src/list.rt:65:1
+returns-3 : tie.Need-returns-3
+returns-3 c = search needs
 
 pub attr-rows-spec : {M : Type 1} → statement M
 attr-rows-spec =
     tie.close
     (tie.spec
     one-run-requires
-    put-row-requires
-    add-t17
+    put-one-requires
     same-length
     returns
-    parse-attr-requires
+    one-word-requires
+    one-run-requires-2
+    put-one-requires-2
     same-length-2
-    returns-2)
+    returns-2
+    parse-attr-requires
+    same-length-3
+    returns-3)

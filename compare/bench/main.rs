@@ -232,17 +232,20 @@ impl Bench {
         Some(Measured { what: "realistic mix", size: tokens, ours: ours / many, theirs: Some(theirs / many) })
     }
 
-    /// A subs text on the normal set; the Rust has no sheet mode, and stands beside it as it is.
-    fn subs(&mut self, sheet: bool, name: &'static str, text: &str) -> Option<Measured> {
+    /// A subs text, or no subs attribute, on the normal set; the Rust has no sheet mode, and stands
+    /// beside it as it is.
+    fn subs(&mut self, sheet: bool, name: &'static str, subs: Option<&str>) -> Option<Measured> {
         if !self.library.has_from_meta(sheet) {
             return None;
         }
+        let text = subs.unwrap_or("");
         let many = (4096 / text.len().max(1)).max(1);
         let library = &self.library;
         let ours = || {
             let start = Instant::now();
             for _ in 0..many {
-                black_box(library.from_meta(sheet, black_box(NORMAL), true, black_box(text.as_bytes())));
+                let bytes = black_box(text.as_bytes());
+                black_box(library.from_meta(sheet, black_box(NORMAL), black_box(subs.is_some()), bytes));
             }
             start.elapsed()
         };
@@ -254,7 +257,17 @@ impl Bench {
             }
             start.elapsed()
         };
-        let (ours, theirs) = in_turn(ours, theirs, self.budget);
+        let theirs_without = || {
+            let start = Instant::now();
+            for _ in 0..many {
+                black_box(rust_side::from_no_meta(black_box(normal)));
+            }
+            start.elapsed()
+        };
+        let (ours, theirs) = match subs {
+            Some(_) => in_turn(ours, theirs, self.budget),
+            None => in_turn(ours, theirs_without, self.budget),
+        };
         let many = many as f64;
         Some(Measured { what: name, size: text.len(), ours: ours / many, theirs: Some(theirs / many) })
     }
@@ -307,15 +320,16 @@ fn main() -> ExitCode {
     let many_parts = "quotes,-macros,attributes+,normal,".repeat(30);
     let longest = "post_replacements,".repeat(3640);
     let texts = [
-        ("one name", "quotes"),
-        ("three parts", "attributes+,+replacements,-callouts"),
-        ("120 parts", many_parts.as_str()),
-        ("the longest text", longest.as_str()),
+        ("no subs attribute", None),
+        ("one name", Some("quotes")),
+        ("three parts", Some("attributes+,+replacements,-callouts")),
+        ("120 parts", Some(many_parts.as_str())),
+        ("the longest text", Some(longest.as_str())),
     ];
     for (sheet, name) in
         [(false, "from_meta, port mode"), (true, "from_meta, sheet mode (beside the Rust's only mode)")]
     {
-        let table = texts.iter().filter_map(|(what, text)| bench.subs(sheet, what, text)).collect();
+        let table = texts.iter().filter_map(|(what, subs)| bench.subs(sheet, what, *subs)).collect();
         tables.push((name, "byte", table));
     }
     tables.retain(|(_, _, table): &(_, _, Vec<Measured>)| !table.is_empty());

@@ -48,3 +48,9 @@ pub fn from_meta(
 ) -> crate::substitutions::Substitutions {
     customize_subs::from_meta(current, &MultiAttrList { subs: Some(text) })
 }
+
+/// With no subs attribute.
+#[inline(never)]
+pub fn from_no_meta(current: crate::substitutions::Substitutions) -> crate::substitutions::Substitutions {
+    customize_subs::from_meta(current, &MultiAttrList { subs: None })
+}

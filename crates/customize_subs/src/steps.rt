@@ -4,8 +4,8 @@ use subs_names::StepOrGroup;
 use substitutions::Mode;
 use substitutions::Subs;
 use substitutions::Substitutions;
+use substitutions::contains;
 use substitutions::insert_held;
-use substitutions::is_in;
 use substitutions::prepend_held;
 use substitutions::remove_held;
 ghost use mathlib.Core.Path.{_≡_};
@@ -20,7 +20,7 @@ ghost use Rattle.customize_subs.specs.Walks.{stays};
 fn stays(strategy: Strategy, set: Substitutions, sub: Subs) -> bool
     ensures { λ r. ⌜ r ≡ stays strategy (numberOf sub) set ⌝ }
 {
-    let there = is_in(set, sub);
+    let there = contains(set, sub);
     match strategy {
         Strategy::Insert => there,
         Strategy::Prepend => false,

@@ -65,7 +65,7 @@ pub fn number(sub: Subs) -> u8
 }
 
 // Whether the set has the flag of a kind.
-pub fn is_in(set: Substitutions, sub: Subs) -> bool
+pub fn contains(set: Substitutions, sub: Subs) -> bool
     ensures { λ r. ⌜ r ≡ flagged (numberOf sub) (set .flags) ⌝ }
 {
     is_flagged(number(sub), set.flags)

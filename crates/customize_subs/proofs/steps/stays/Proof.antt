@@ -6,8 +6,8 @@ use mathlib.Core.Path.{ap}
 use Rattle.customize_subs.proofs.steps.stays.Statement.{statement}
 use Rattle.customize_subs.proofs.steps.stays.Tie as tie
 
-is-in-requires : tie.Need-is-in-requires
-is-in-requires c κs = search needs
+contains-requires : tie.Need-contains-requires
+contains-requires c κs = search needs
 
 enum-told : tie.Need-enum-told
 enum-told c = search needs
@@ -19,13 +19,13 @@ enum-told-3 : tie.Need-enum-told-3
 enum-told-3 c = search needs
 
 returns : tie.Need-returns
-returns c = rw (c .enum-told .given .1) (c .before .before .is-in .ensures)
+returns c = rw (c .enum-told .given .1) (c .before .before .contains .ensures)
 
 returns-2 : tie.Need-returns-2
 returns-2 c = search needs
 
 returns-3 : tie.Need-returns-3
-returns-3 c = rw (c .enum-told3 .given .1) (ap not (c .before .before .is-in .ensures))
+returns-3 c = rw (c .enum-told3 .given .1) (ap not (c .before .before .contains .ensures))
 
 pub stays-spec : {M : Type 1} → statement M
-stays-spec = tie.close (tie.spec is-in-requires enum-told enum-told-2 enum-told-3 returns returns-2 returns-3)
+stays-spec = tie.close (tie.spec contains-requires enum-told enum-told-2 enum-told-3 returns returns-2 returns-3)

@@ -94,6 +94,17 @@ fn division<'a>(entry: usize, kinds: &'a [u8], text: &'a [u8], pairs: &'a [u32],
     words(b"\n");
 }
 
+// Says how many tokens were consumed.
+fn tell_consumed(tokens: usize) {
+    words(b"  ");
+    count(tokens);
+    if tokens == 1 {
+        words(b" token consumed\n");
+        return;
+    }
+    words(b" tokens consumed\n");
+}
+
 // What one of the four readings answers.
 fn answered<'a, 'b>(
     entry: usize,
@@ -124,9 +135,7 @@ pub fn tell_list<'a>(
         Answer::Read { rows: n, consumed } => {
             division(entry, kinds, text, pairs, consumed);
             all_rows(kinds, shown, pairs, &rows, n);
-            words(b"  ");
-            count(consumed);
-            words(b" tokens consumed\n");
+            tell_consumed(consumed);
         }
     }
 }

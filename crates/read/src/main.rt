@@ -1,4 +1,5 @@
 // Reads lines of tokens (docs/FORMAT.md) from the file that its argument names, and prints what the reader says of each.
+mod lines;
 mod list;
 mod scan;
 mod show;
@@ -7,6 +8,7 @@ mod tokens;
 use scan::byte;
 use scan::find;
 use scan::onward;
+use scan::past_blanks;
 use scan::word_number;
 use scan::write_part;
 use scan::write_word;
@@ -121,8 +123,9 @@ fn token_line(file: &[u8], line: usize, entry: usize, from: usize, end: usize, t
     tell_front(entry, &kinds, &text, &pairs, filled.tokens, filled.bytes);
 }
 
-// One line of the file: a comment is printed as it stands, an empty line is passed over.
-fn one_line(file: &[u8], line: usize, from: usize, to: usize) {
+// One line of the file, its first `to` bytes: a comment is printed as it stands, a line of blanks is passed over.
+pub fn one_line(file: &[u8], line: usize, to: usize) {
+    let from = past_blanks(file, to);
     if from >= to {
         return;
     }
@@ -140,42 +143,6 @@ fn one_line(file: &[u8], line: usize, from: usize, to: usize) {
     token_line(file, line, entry, from, end, to);
 }
 
-// Where a line ends that is followed by a newline at `to`: before a carriage return, if there is one.
-fn line_end(file: &[u8], from: usize, to: usize) -> usize {
-    if from >= to {
-        return to;
-    }
-    if byte(file, to - 1) == b'\r' {
-        return to - 1;
-    }
-    to
-}
-
-// Each line of the file.
-fn all_lines(file: &[u8]) {
-    let mut at: usize = 0;
-    let mut line: usize = 1;
-    while at < file.len() {
-        let end = find(file, at, file.len(), b'\n');
-        one_line(file, line, at, line_end(file, at, end));
-        if end < at {
-            return;
-        }
-        at = end + 1;
-        line = onward(line, 1, 9999999);
-    }
-}
-
-// The most bytes of a file that are read.
-fn read_file(fd: i32) {
-    let mut file = [0u8; 400000];
-    let n = io::read_full(fd, &mut file);
-    all_lines(&file[..n]);
-    if n == 400000 {
-        words(b"the file has 400,000 bytes or more: nothing behind them was read\n");
-    }
-}
-
 fn main() {
     let mut path = io::buffer();
     let n = os::arg(1, &mut path);
@@ -188,6 +155,6 @@ fn main() {
         os::fail(&path[..n]);
         return;
     }
-    read_file(fd);
+    lines::all_lines(fd);
     libc::close(fd);
 }

@@ -96,6 +96,18 @@ pub fn find(text: &[u8], from: usize, to: usize, b: u8) -> usize
     text.len()
 }
 
+// The place of the first byte of a text that is no blank, or `to`.
+pub fn past_blanks(text: &[u8], to: usize) -> usize {
+    let mut at: usize = 0;
+    while at < to {
+        if byte(text, at) != b' ' {
+            return at;
+        }
+        at += 1;
+    }
+    at
+}
+
 // Whether one part of a text is the same bytes as one part of another.
 pub fn same<'a>(
     a: &'a [u8],

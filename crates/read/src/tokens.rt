@@ -108,16 +108,25 @@ fn escape(second: u8, third: u8, fourth: u8) -> Piece {
     }
 }
 
-// The byte of a token's text that is written at `at`.
-fn piece_at(file: &[u8], at: usize) -> Piece {
+// The byte `n` places behind `at`, 0 from `to` on.
+fn byte_behind(file: &[u8], at: usize, n: usize, to: usize) -> u8 {
+    let place = onward(at, n, to);
+    if place >= to {
+        return 0;
+    }
+    byte(file, place)
+}
+
+// The byte of a token's text that is written at `at`; the text ends at `to`.
+fn piece_at(file: &[u8], at: usize, to: usize) -> Piece {
     let first = byte(file, at);
     if first != b'\\' {
         return plain(first, 1);
     }
     escape(
-        byte(file, onward(at, 1, file.len())),
-        byte(file, onward(at, 2, file.len())),
-        byte(file, onward(at, 3, file.len())),
+        byte_behind(file, at, 1, to),
+        byte_behind(file, at, 2, to),
+        byte_behind(file, at, 3, to),
     )
 }
 
@@ -126,7 +135,7 @@ fn put_text(file: &[u8], from: usize, to: usize, text: &mut [u8], bytes: usize) 
     let mut at = from;
     let mut end = bytes;
     while at < to {
-        let p = piece_at(file, at);
+        let p = piece_at(file, at, to);
         if !p.known {
             return Copied {
                 bytes: end,

@@ -1,16 +1,26 @@
 -- Parts of the text by their places, and laws for each way through the loops that find them.
-use Prim.Native.Nat.{ℕ, suc, _+_, _-_, _≤_, _<_}
+use Prim.Native.Nat.{ℕ, zero, suc, _+_, _-_, _≤_, _<_}
 use mathlib.Core.Path.{_≡_, refl, sym, ap, _∙_}
-use mathlib.Core.Bool.{Bool, true, false, cond, and-false}
+use mathlib.Core.Bool.{Bool, true, false, cond, and-false, _||_, or-assoc}
 use mathlib.Core.List.{List, [], _∷_, _++_}
 use native.Mathlib.Omega.{arith}
 use native.Mathlib.Numerals.{add-one}
 use borrow.Author.Tests.{ne-eqb, le-leb, lt-leb, lt-ltb, leb-true}
+use lib.Bits.{bitOr, or-zero-l, or-zero-r, or-self}
 use lib.Dec.{eqb, ltb, leb, leb·suc-suc}
 use lib.ListN.{length, take, drop, getD, drop-of-length-le, length-drop}
 use lib.Seq.{drop-cons, drop-drop, take-suc, getD-drop, length-take-le}
+use Rattle.substitutions.specs.Kinds.{one}
 use Rattle.customize_subs.specs.Text.{onFirst, split, front, blank, back, modified}
-use Rattle.customize_subs.specs.Walks.{toComma, between, partsFrom}
+use Rattle.customize_subs.specs.Walks.{toComma, isModifier, between, partsFrom}
+
+-- 1 where f is 1 or t holds, else 0.
+pub found-or : (f : ℕ) (t : Bool) → f ≤ 1 → (bitOr f (one t) ≤ 1) × (eqb (bitOr f (one t)) 1 ≡ (eqb f 1 || t))
+found-or zero true le = rw (or-zero-l 1) (omega arith, refl)
+found-or zero false le = rw (or-zero-l 0) (omega arith, refl)
+found-or (suc zero) true le = rw (or-self 1) (omega arith, refl)
+found-or (suc zero) false le = rw (or-zero-r 1) (omega arith, refl)
+found-or (suc (suc n)) t le = absurd (omega arith)
 
 -- The first comma.
 pub comma-end : (text : List ℕ) (i : ℕ) → length text ≤ i → toComma (drop i text) ≡ 0
@@ -27,17 +37,17 @@ module _ (text : List ℕ) (i : ℕ) (lt : i < length text) where
   comma-next h = rw (drop-cons text i 0 lt, ne-eqb (getD text i 0) 44 h, add-one i, add-one (toComma (drop (suc i) text)))
 
   -- Any + or -.
-  pub modified-plus : getD text i 0 ≡ 43 → true ≡ modified (drop i text)
+  pub modified-next : modified (drop i text) ≡ (isModifier (getD text i 0) || modified (drop (i + 1) text))
   unfolding modified
-  modified-plus h = rw (drop-cons text i 0 lt, h)
+  modified-next = rw (drop-cons text i 0 lt, add-one i)
 
-  pub modified-minus : getD text i 0 ≡ 45 → true ≡ modified (drop i text)
-  unfolding modified
-  modified-minus h = rw (drop-cons text i 0 lt, h)
-
-  pub modified-next : (getD text i 0 ≡ 43 → ⊥) → (getD text i 0 ≡ 45 → ⊥) → modified (drop (i + 1) text) ≡ modified (drop i text)
-  unfolding modified
-  modified-next p m = rw (drop-cons text i 0 lt, ne-eqb (getD text i 0) 43 p, ne-eqb (getD text i 0) 45 m, add-one i)
+  -- f is 1 where one of the bytes before place i is a + or -, else 0
+  pub modified-found : (f : ℕ) (m : Bool) → f ≤ 1 → (eqb f 1 || modified (drop i text)) ≡ m
+      → (eqb (bitOr f (one (isModifier (getD text i 0)))) 1 || modified (drop (i + 1) text)) ≡ m
+  modified-found f m le h =
+      let t = isModifier (getD text i 0) in
+      let rest = modified (drop (i + 1) text) in
+      ap (λ (x : Bool). x || rest) (found-or f t le .1) ∙ or-assoc (eqb f 1) t rest ∙ ap (λ (x : Bool). eqb f 1 || x) (sym modified-next) ∙ h
 
 pub modified-end : (text : List ℕ) (i : ℕ) → length text ≤ i → false ≡ modified (drop i text)
 unfolding modified

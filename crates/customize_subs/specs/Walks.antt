@@ -1,7 +1,7 @@
 -- Parts by their places in the text, as the code finds them, and what it tests of a move. No public contract speaks of these: the laws tie them to `Text`
 -- and `Customizing`.
 use Prim.Native.Nat.{ℕ, suc, _-_}
-use mathlib.Core.Bool.{Bool, false, not, cond}
+use mathlib.Core.Bool.{Bool, false, not, cond, _||_}
 use mathlib.Core.List.{List, [], _∷_}
 use lib.Dec.{eqb, leb}
 use lib.ListN.{length, take, drop}
@@ -15,6 +15,10 @@ use Rattle.customize_subs.specs.Text.{split}
 unfoldable pub toComma : List ℕ → ℕ
 toComma [] = 0
 toComma (b ∷ bs) = cond (eqb b 44) 0 (suc (toComma bs))
+
+-- A byte that is + or −.
+abbrev pub isModifier : ℕ → Bool
+isModifier b = eqb b 43 || eqb b 45
 
 -- The bytes from place a up to place e.
 unfoldable pub between : ℕ → ℕ → List ℕ → List ℕ

@@ -4,9 +4,10 @@ use substitutions::Mode;
 ghost use mathlib.Core.Path.{_≡_};
 ghost use Prim.Native.Nat.{_≤_, _<_, _+_};
 ghost use lib.ListN.{length, drop};
+ghost use Rattle.substitutions.specs.Kinds.{one};
 ghost use Rattle.customize_subs.specs.Text.{front, back, modified};
 ghost use Rattle.customize_subs.specs.Customizing.{partOf, strategyOf, nameOf};
-ghost use Rattle.customize_subs.specs.Walks.{toComma, between};
+ghost use Rattle.customize_subs.specs.Walks.{toComma, isModifier, between};
 
 // A part of the text: the bytes from `start` up to `end`.
 pub struct Span {
@@ -37,27 +38,28 @@ pub fn next_comma(text: &[u8], from: usize) -> usize
     i
 }
 
-// Whether the text holds any + or -.
+// 1 for + and -, else 0.
+fn modifier(b: u8) -> u8
+    ensures { λ r. ⌜ r ≡ one (isModifier b) ⌝ }
+{
+    match b {
+        43 => 1,
+        45 => 1,
+        _ => 0,
+    }
+}
+
+// Whether the text holds any + or -. Every byte is looked at, and none decides where to go on, so that the compiler takes sixteen at a time.
 pub fn has_modifier(text: &[u8]) -> bool
     ensures { λ r. ⌜ r ≡ modified (now (text .entry)) ⌝ }
 {
+    let mut found: u8 = 0;
     let mut i: usize = 0;
     while i < text.len() {
-        let b = text[i];
-        // letters, which are most bytes of a subs text, are over both
-        if b > 45 {
-            i = i + 1;
-            continue;
-        }
-        if b == 43 {
-            return true;
-        }
-        if b == 45 {
-            return true;
-        }
+        found = found | modifier(text[i]);
         i = i + 1;
     }
-    false
+    found == 1
 }
 
 // The first place from `start` on that holds no space, or `end`.

@@ -1,25 +1,31 @@
--- `has_modifier` looks for a + or -. The loop's invariant: the rest holds one exactly where the whole does. Assumes nothing.
+-- `has_modifier` looks for a + or -. The loop's invariant: one is found already or the rest holds one, exactly where the whole does. Assumes nothing.
 use borrow.Author.Needs.{needs}
-use Prim.Native.Nat.{_-_, _≤_}
+use Prim.Native.Nat.{ℕ, _-_, _≤_}
 use native.Mathlib.Omega.{arith}
-use mathlib.Core.Path.{_≡_, _∙_}
-use lib.ListN.{length, drop}
+use mathlib.Core.Bool.{Bool, _||_, or-false}
+use mathlib.Core.Path.{_≡_, refl, sym, ap, _∙_}
+use lib.Dec.{eqb}
+use lib.ListN.{length, drop, getD}
 use Rattle.customize_subs.specs.Text.{modified}
-use Rattle.customize_subs.specs.TextLaws.{modified-plus, modified-minus, modified-next, modified-end}
+use Rattle.customize_subs.specs.TextLaws.{found-or, modified-found, modified-end}
+use Rattle.customize_subs.specs.Walks.{isModifier}
 use Rattle.customize_subs.proofs.parts.has_modifier.Statement.{statement}
 use Rattle.customize_subs.proofs.parts.has_modifier.Tie as tie
 
 abbrev Inv-loop : tie.InvT-loop
-Inv-loop text i₀ i = (i ≤ length text) × (modified (drop i text) ≡ modified text)
+Inv-loop text found₀ i₀ found i = (i ≤ length text) × ((found ≤ 1) × ((eqb found 1 || modified (drop i text)) ≡ modified text))
 
 abbrev μ-loop : tie.MeasureT-loop
-μ-loop text i₀ i = length text - i
+μ-loop text found₀ i₀ found i = length text - i
 
 loop-holds : tie.Need-loop-holds Inv-loop μ-loop
-loop-holds c = search needs
+loop-holds c = (omega arith, (omega arith, refl))
 
-shared-slice-read-b : tie.Need-shared-slice-read-b Inv-loop μ-loop
-shared-slice-read-b c = omega arith
+shared-slice-read-modifier : tie.Need-shared-slice-read-modifier Inv-loop μ-loop
+shared-slice-read-modifier c = omega arith
+
+modifier-requires : tie.Need-modifier-requires Inv-loop μ-loop
+modifier-requires c κs = search needs
 
 add-i : tie.Need-add-i Inv-loop μ-loop
 add-i c = omega arith
@@ -30,38 +36,14 @@ loop-less c = omega arith
 loop-again : tie.Need-loop-again Inv-loop μ-loop
 loop-again c =
     let l = c .before .before .before .loop in
-    let a = c .before .before .before .before .args in
-    (omega arith, modified-next (a .text .now) (l .i) (omega arith) (λ e. absurd (omega (arith, e, c .if1 .taken))) (λ e. absurd (omega (arith, e, c .if1 .taken))) ∙ l .inv .1)
+    let t = c .before .before .before .before .before .args .text .now in
+    rw (c .modifier .ensures) (omega arith, (found-or (l .found) (isModifier (getD t (l .i) 0)) (l .inv .1 .0) .0, modified-found t (l .i) (omega arith) (l .found) (modified t) (l .inv .1 .0) (l .inv .1 .1)))
 
 returns : tie.Need-returns Inv-loop μ-loop
 returns c =
-    let l = c .before .before .before .before .loop in
-    let a = c .before .before .before .before .before .args in
-    modified-plus (a .text .now) (l .i) (omega arith) (c .if2 .taken) ∙ l .inv .1
-
-returns-2 : tie.Need-returns-2 Inv-loop μ-loop
-returns-2 c =
-    let l = c .before .before .before .before .before .loop in
-    let a = c .before .before .before .before .before .before .args in
-    modified-minus (a .text .now) (l .i) (omega arith) (c .if3 .taken) ∙ l .inv .1
-
-add-i-2 : tie.Need-add-i-2 Inv-loop μ-loop
-add-i-2 c = omega arith
-
-loop-less-2 : tie.Need-loop-less-2 Inv-loop μ-loop
-loop-less-2 c = omega arith
-
-loop-again-2 : tie.Need-loop-again-2 Inv-loop μ-loop
-loop-again-2 c =
-    let l = c .before .before .before .before .before .loop in
-    let a = c .before .before .before .before .before .before .args in
-    (omega arith, modified-next (a .text .now) (l .i) (omega arith) (c .before .if2 .left) (c .if3 .left) ∙ l .inv .1)
-
-returns-3 : tie.Need-returns-3 Inv-loop μ-loop
-returns-3 c =
     let l = c .before .loop in
-    let a = c .before .before .args in
-    modified-end (a .text .now) (l .i) (c .loop-test .left) ∙ l .inv .1
+    let t = c .before .before .before .args .text .now in
+    sym (or-false (eqb (l .found) 1)) ∙ ap (λ (x : Bool). eqb (l .found) 1 || x) (modified-end t (l .i) (c .loop-test .left)) ∙ l .inv .1 .1
 
 pub has-modifier-spec : {M : Type 1} → statement M
 has-modifier-spec =
@@ -70,13 +52,9 @@ has-modifier-spec =
     Inv-loop
     μ-loop
     loop-holds
-    shared-slice-read-b
+    shared-slice-read-modifier
+    modifier-requires
     add-i
     loop-less
     loop-again
-    returns
-    returns-2
-    add-i-2
-    loop-less-2
-    loop-again-2
-    returns-3)
+    returns)

@@ -221,55 +221,13 @@ divided by the reader's.
             out.push_str(FROM_META);
         }
     }
-    out.push_str(WHERE_TIME_GOES);
+    out.push_str("\nWhere the time goes, what was changed and what was tried: SPEED.md.\n");
     out
 }
 
 const FROM_META: &str = "
 The Rust is handed a set that it has made itself. The reader checks the set that it is lent (10, and 11
-in sheet mode); a call with no subs attribute does little else (80 instructions by callgrind; one name
-takes 307), and what it takes longer than the Rust's is most of what one name takes longer. The rest is
-not separated.
-
-Five times the Rust's speed is reached on no subs text, and we see no way there: the Rust allocates
-nothing here and, like the reader, goes over the bytes once for a `+` or `-`, once for the commas and
-once more for the names.
-
-Changed, with the contracts as they were: the normal set is known by one look at its places; a byte
-over both `+` and `-` costs one comparison; a part that leaves the set as it is (the insert of what is
-in it, the remove of what is not) hands it back and does not take it apart into its eight bytes and put
-it together again. The library before these changes and after, by this program: one name 27.5 to 20.2
-ns, three parts 54.5 to 45.0, 120 parts 2,206 to 1,607.
-
-The longest text takes 76 or 97 µs by where the linker puts one and the same archive: builds of this
-program that differ in the Rust's side alone, or in the words of this page, gave the one or the other,
-and a C program 76. So its ratio is 1.0 to 1.3, in sheet mode 0.96 to 1.3.
-";
-
-const WHERE_TIME_GOES: &str = "
-## Where the time goes
-
-The targets of the four readings are met: in this run and in thirteen before it, with the same library
-and nothing else running, the ratio at 3 tokens was 6.3 or more. The library before the changes below
-gave 4.6 in two runs among them.
-
-The changes, with the contracts as they were, each timed in a C program on a word, a comma and a
-bracket, three runs:
-
-- before: 30.3 ns, 441 instructions.
-- A positional is looked at for quotes only if it may be cut, and the end of the last token alone is
-  compared with the text: 29.3 ns, 400 instructions.
-- The text and the pairs are lent on by address and length: 26.1 ns. The compiler had copied both
-  slices by one load of 16 bytes each right after two writes of 8, and such a load waits until the
-  writes are in the cache. Exchanging these loads alone, in the compiler's output, gave as much (29.3 to
-  25.8 ns); in the code before, only 30.3 to 28.9, we think because other work beside it took as long.
-- An attribute of one Word is its row, with nothing to look for: 19.9 ns, 254 instructions (135 in the
-  entry with its checks, 119 for the commas, the bracket and the two rows).
-
-Left: the answer is copied by such a load too on its way to the exported function. Exchanging it in the
-compiler's output gave 17.4 ns. The other order of the two fields of `Answer::Read` gave 17.8; we left
-the order that the header has. A smaller array for the commas gained half a nanosecond at most before
-these changes; at 16 numbers a line of 20 tokens took 1.6 times as long.
+in sheet mode), and a call with no subs attribute does little else.
 ";
 
 // ---- the plot

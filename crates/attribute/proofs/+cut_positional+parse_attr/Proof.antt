@@ -1,21 +1,15 @@
-use borrow.Author.Needs.{needs}
-use Prim.Native.Nat.{ℕ, zero, suc, _+_, _*_, _-_, _≤_, _<_}
+-- `parse_attr` and `cut_positional` give the rows of an attribute, each for every bound that is enough. The tokens left fall: a cut hands on a
+-- shorter tail (measures 2n + 1 and 2n of n tokens). Assumes nothing.
+use Prim.Native.Nat.{ℕ, _+_, _*_, _-_, _<_}
 use native.Mathlib.Omega.{arith}
-use native.Mathlib.Numerals.{add-one}
-use mathlib.Core.Bool.{Bool, true, false, cond, not, _&&_, _||_}
-use mathlib.Core.Path.{_≡_, refl, sym, ap, subst, _∙_}
-use mathlib.Core.Logic.{⊎-elim}
-use mathlib.Core.List.{List, [], _∷_, _++_}
-use lib.Dec.{eqb}
-use lib.ListN.{length, getD, take, drop, set, length-set}
-use borrow.Author.Tests.{eq-eqb, ne-eqb, lt-ltb, le-ltb, le-leb, lt-leb}
+use mathlib.Core.Path.{refl, sym, ap, subst, _∙_}
 use Prim.Native.Nat.{ℕ, _<_}
 use borrow.Fn.Kinds.{In}
 use borrow.Fn.PlainCycle.{Measures, is, falls, and}
-use Rattle.attribute.proofs.Whole.{all-told, wrote-told, whole-empty, whole-ir, id-run, whole-positional, whole-cut, cut-some, whole-named, whole-plain, whole-options, whole-roles, whole-id, whole-shorthand, whole-stops, cut-none, cut-later, in-own, id-few}
-use Rattle.attribute.specs.Parts.{written, WroteId}
-use Rattle.attribute.specs.Attribute.{Read, attribute}
-use Rattle.attr_ir.specs.Parts.{InLine, Bounded}
+use Rattle.attribute.proofs.Whole.{all-told, wrote-told, whole-empty, id-run, whole-positional, whole-cut, cut-some, whole-named, whole-plain, whole-options, whole-roles, whole-id, whole-shorthand, whole-stops, cut-none, cut-later, in-own, id-few}
+use Rattle.attribute.specs.Parts.{written}
+use Rattle.attribute.specs.Attribute.{Read}
+use Rattle.attr_ir.specs.Parts.{Bounded}
 use Rattle.attr_ir.specs.declared.AttrIr.{AttrIr}
 use Rattle.row.specs.Row.{Fits, withRows}
 use Rattle.row.specs.declared.Row.{Row}
@@ -70,7 +64,6 @@ abbrev parse-attr-below : ℕ → In 2 parse-attr-kinds.ps
 parse-attr-below t =
     and 2 parse-attr-kinds.ps (falls 2 parse-attr-kinds.ps _<_ μ-parse-attr t) parse-attr.Pre
 
--- src/lib.rt:114:25
 cut-positional-add-parse-attr : (t : ℕ) → cut-positional-lts.Need-add-parse-attr (
   find-symbol-reads.Asked,
   find-symbol-reads.Learnt,
@@ -87,7 +80,6 @@ cut-positional-add-parse-attr : (t : ℕ) → cut-positional-lts.Need-add-parse-
 ) (cut-positional-at t) cut-positional.Post
 cut-positional-add-parse-attr t c = omega (arith, c .before .before .before .before .before .before .before .pre .1 .1 .0 .0, c .before .before .before .before .before .before .before .pre .1 .1 .0 .1, c .before .before .before .before .before .before .before .pre .1 .1 .1 .within, c .before .before .before .before .before .before .before .pre .1 .0 .few)
 
--- src/lib.rt:115:9
 cut-positional-find-symbol-requires : (t : ℕ) → cut-positional-lts.Need-find-symbol-requires (
   find-symbol-reads.Asked,
   find-symbol-reads.Learnt,
@@ -104,7 +96,6 @@ cut-positional-find-symbol-requires : (t : ℕ) → cut-positional-lts.Need-find
 ) (cut-positional-at t) cut-positional.Post
 cut-positional-find-symbol-requires t c κs = (omega arith, omega (arith, c .before .before .before .before .before .before .before .pre .1 .1 .0 .0, c .before .before .before .before .before .before .before .pre .1 .1 .0 .1, c .before .before .before .before .before .before .before .pre .1 .1 .1 .within, c .before .before .before .before .before .before .before .pre .1 .0 .few))
 
--- src/lib.rt:117:9
 cut-positional-put-diagnostic-requires : (t : ℕ) → cut-positional-lts.Need-put-diagnostic-requires (
   find-symbol-reads.Asked,
   find-symbol-reads.Learnt,
@@ -121,7 +112,6 @@ cut-positional-put-diagnostic-requires : (t : ℕ) → cut-positional-lts.Need-p
 ) (cut-positional-at t) cut-positional.Post
 cut-positional-put-diagnostic-requires t c κs = (omega (arith, c .before .before .before .before .before .before .before .before .before .before .before .before .pre .1 .1 .0 .0, c .before .before .before .before .before .before .before .before .before .before .before .before .pre .1 .1 .0 .1, c .before .before .before .before .before .before .before .before .before .before .before .before .pre .1 .1 .1 .within, c .before .before .before .before .before .before .before .before .before .before .before .before .pre .1 .0 .few), omega (arith, c .before .before .before .before .before .before .before .before .before .before .before .before .pre .1 .1 .0 .0, c .before .before .before .before .before .before .before .before .before .before .before .before .pre .1 .1 .0 .1, c .before .before .before .before .before .before .before .before .before .before .before .before .pre .1 .1 .1 .within, c .before .before .before .before .before .before .before .before .before .before .before .before .pre .1 .0 .few, c .before .before .before .before .find-symbol .ensures .high), omega arith)
 
--- src/lib.rt:117:9
 cut-positional-same-length : (t : ℕ) → cut-positional-lts.Need-same-length (
   find-symbol-reads.Asked,
   find-symbol-reads.Learnt,
@@ -138,7 +128,6 @@ cut-positional-same-length : (t : ℕ) → cut-positional-lts.Need-same-length (
 ) (cut-positional-at t) cut-positional.Post
 cut-positional-same-length t c = c .before .before .put-diagnostic .kept .0
 
--- src/lib.rt:117:9
 cut-positional-returns : (t : ℕ) → cut-positional-lts.Need-returns (
   find-symbol-reads.Asked,
   find-symbol-reads.Learnt,
@@ -155,7 +144,6 @@ cut-positional-returns : (t : ℕ) → cut-positional-lts.Need-returns (
 ) (cut-positional-at t) cut-positional.Post
 cut-positional-returns t c = all-told _ _ _ _ _ _ _ (c .before .before .put-diagnostic .ensures) (cut-none (c .before .before .before .before .before .before .before .before .before .before .before .before .before .before .before .args .kinds .now) (c .before .before .before .before .before .before .before .before .before .before .before .before .before .before .before .args .text .now) (c .before .before .before .before .before .before .before .before .before .before .before .before .before .before .before .args .pairs .now) (c .before .before .before .before .before .before .before .before .before .before .before .before .before .before .before .args .run .place .0) (c .before .before .before .before .before .before .before .before .before .before .before .before .before .before .before .args .run .place .0 + c .before .before .before .before .before .before .before .before .before .before .before .before .before .before .before .args .run .count) (c .before .before .before .before .before .before .before .before .before .before .before .before .before .before .before .args .block) (c .before .before .before .before .before .before .before .before .before .before .before .before .before .before .before .args .has) (c .before .before .before .before .before .before .before .find-symbol .result .0) (c .before .before .before .before .before .before .before .find-symbol .ensures) (omega (arith, c .before .before .before .before .before .before .before .before .before .before .before .before .before .before .before .pre .1 .1 .0 .0)) (c .before .before .before .before .before .before .before .before .before .before .before .before .before .before .before .args .rows .now) (c .before .before .before .before .before .before .before .before .before .before .before .before .before .before .before .args .at) (c .before .before .before .before .if1 .taken)) (omega (arith, c .before .before .put-diagnostic .ensures .wrote .count))
 
--- src/lib.rt:119:43
 cut-positional-run-of-requires : (t : ℕ) → cut-positional-lts.Need-run-of-requires (
   find-symbol-reads.Asked,
   find-symbol-reads.Learnt,
@@ -172,7 +160,6 @@ cut-positional-run-of-requires : (t : ℕ) → cut-positional-lts.Need-run-of-re
 ) (cut-positional-at t) cut-positional.Post
 cut-positional-run-of-requires t c κs = (omega arith, omega (arith, c .before .before .before .before .find-symbol .ensures .high, c .before .before .before .before .before .before .before .before .before .before .before .before .pre .1 .1 .1 .within))
 
--- src/lib.rt:119:23
 cut-positional-one-run-requires : (t : ℕ) → cut-positional-lts.Need-one-run-requires (
   find-symbol-reads.Asked,
   find-symbol-reads.Learnt,
@@ -189,7 +176,6 @@ cut-positional-one-run-requires : (t : ℕ) → cut-positional-lts.Need-one-run-
 ) (cut-positional-at t) cut-positional.Post
 cut-positional-one-run-requires t c κs = tt
 
--- src/lib.rt:119:5
 cut-positional-put-row-requires : (t : ℕ) → cut-positional-lts.Need-put-row-requires (
   find-symbol-reads.Asked,
   find-symbol-reads.Learnt,
@@ -206,7 +192,6 @@ cut-positional-put-row-requires : (t : ℕ) → cut-positional-lts.Need-put-row-
 ) (cut-positional-at t) cut-positional.Post
 cut-positional-put-row-requires t c κs = (omega (arith, c .before .before .before .before .before .before .before .before .before .before .before .before .before .before .pre .1 .1 .0 .0, c .before .before .before .before .before .before .before .before .before .before .before .before .before .before .pre .1 .1 .0 .1, c .before .before .before .before .before .before .before .before .before .before .before .before .before .before .pre .1 .1 .1 .within, c .before .before .before .before .before .before .before .before .before .before .before .before .before .before .pre .1 .0 .few), subst (λ (r : Row). Fits r) (sym (c .one-run .ensures)) (record { first-place = omega (arith, c .before .before .before .before .before .before .before .before .before .before .before .before .before .before .pre .1 .1 .0 .0, c .before .before .before .before .before .before .before .before .before .before .before .before .before .before .pre .1 .1 .0 .1, c .before .before .before .before .before .before .before .before .before .before .before .before .before .before .pre .1 .1 .1 .within, c .before .before .before .before .before .before .before .before .before .before .before .before .before .before .pre .1 .0 .few, c .before .run-of .ensures .1 .within, c .before .before .before .before .before .before .find-symbol .ensures .high); first-count = omega (arith, c .before .before .before .before .before .before .before .before .before .before .before .before .before .before .pre .1 .1 .0 .0, c .before .before .before .before .before .before .before .before .before .before .before .before .before .before .pre .1 .1 .0 .1, c .before .before .before .before .before .before .before .before .before .before .before .before .before .before .pre .1 .1 .1 .within, c .before .before .before .before .before .before .before .before .before .before .before .before .before .before .pre .1 .0 .few, c .before .run-of .ensures .1 .within, c .before .before .before .before .before .before .find-symbol .ensures .high); second-place = omega arith; second-count = omega arith }))
 
--- src/lib.rt:120:66
 cut-positional-add-parse-attr-2 : (t : ℕ) → cut-positional-lts.Need-add-parse-attr-2 (
   find-symbol-reads.Asked,
   find-symbol-reads.Learnt,
@@ -223,7 +208,6 @@ cut-positional-add-parse-attr-2 : (t : ℕ) → cut-positional-lts.Need-add-pars
 ) (cut-positional-at t) cut-positional.Post
 cut-positional-add-parse-attr-2 t c = omega (arith, c .before .before .before .before .before .before .before .before .before .before .before .before .before .before .before .before .before .before .pre .1 .1 .0 .0, c .before .before .before .before .before .before .before .before .before .before .before .before .before .before .before .before .before .before .pre .1 .1 .0 .1, c .before .before .before .before .before .before .before .before .before .before .before .before .before .before .before .before .before .before .pre .1 .1 .1 .within, c .before .before .before .before .before .before .before .before .before .before .before .before .before .before .before .before .before .before .pre .1 .0 .few, c .before .before .before .before .before .before .before .before .before .before .before .before .before .before .before .before .before .before .good .1 .1 .1 .1 .1 .1 .0 .0)
 
--- src/lib.rt:120:5
 cut-positional-parse-attr-requires : (t : ℕ) → cut-positional-lts.Need-parse-attr-requires (
   find-symbol-reads.Asked,
   find-symbol-reads.Learnt,
@@ -240,7 +224,6 @@ cut-positional-parse-attr-requires : (t : ℕ) → cut-positional-lts.Need-parse
 ) (cut-positional-at t) cut-positional.Post
 cut-positional-parse-attr-requires t c κs = (omega (arith, c .before .before .before .before .before .before .before .before .before .before .before .before .before .before .before .before .before .before .pre .0, c .before .before .before .before .before .before .before .if1 .left, c .before .before .before .before .before .before .before .before .before .before .before .before .before .before .before .before .before .before .pre .1 .1 .0 .0, c .before .before .before .before .before .before .before .before .before .before .before .before .before .before .before .before .before .before .pre .1 .1 .0 .1, c .before .before .before .before .before .before .before .before .before .before .before .before .before .before .before .before .before .before .pre .1 .1 .1 .within, c .before .before .before .before .before .before .before .before .before .before .before .before .before .before .before .before .before .before .pre .1 .0 .few, c .before .before .before .before .before .before .before .before .before .before .find-symbol .ensures .low, c .before .before .before .before .before .before .before .before .before .before .find-symbol .ensures .high), (c .before .before .before .before .before .before .before .before .before .before .before .before .before .before .before .before .before .before .pre .1 .0, (omega (arith, c .before .before .before .before .before .before .before .before .before .before .find-symbol .ensures .high), omega (arith, c .before .before .before .before .before .before .before .before .before .before .before .before .before .before .before .before .before .before .pre .1 .1 .0 .0, c .before .before .before .before .before .before .before .before .before .before .before .before .before .before .before .before .before .before .pre .1 .1 .0 .1, c .before .before .before .before .before .before .before .before .before .before .before .before .before .before .before .before .before .before .pre .1 .1 .1 .within, c .before .before .before .before .before .before .before .before .before .before .before .before .before .before .before .before .before .before .pre .1 .0 .few), omega (arith, c .before .before .before .before .before .before .before .before .before .before .before .before .before .before .before .before .before .before .pre .1 .1 .0 .0, c .before .before .before .before .before .before .before .before .before .before .before .before .before .before .before .before .before .before .pre .1 .1 .0 .1, c .before .before .before .before .before .before .before .before .before .before .before .before .before .before .before .before .before .before .pre .1 .1 .1 .within, c .before .before .before .before .before .before .before .before .before .before .before .before .before .before .before .before .before .before .pre .1 .0 .few, c .before .before .before .before .before .before .before .if1 .left, c .before .before .before .before .before .before .before .before .before .before .find-symbol .ensures .high, c .before .before .before .put-row .kept .0))))
 
--- src/lib.rt:96:1
 cut-positional-same-length-2 : (t : ℕ) → cut-positional-lts.Need-same-length-2 (
   find-symbol-reads.Asked,
   find-symbol-reads.Learnt,
@@ -257,7 +240,6 @@ cut-positional-same-length-2 : (t : ℕ) → cut-positional-lts.Need-same-length
 ) (cut-positional-at t) cut-positional.Post
 cut-positional-same-length-2 t c = c .before .before .parse-attr .kept .1 .1 .1 .1 .1 .1 .1 .0 ∙ c .before .before .before .before .before .before .put-row .kept .0
 
--- src/lib.rt:96:1
 cut-positional-returns-2 : (t : ℕ) → cut-positional-lts.Need-returns-2 (
   find-symbol-reads.Asked,
   find-symbol-reads.Learnt,
@@ -274,7 +256,6 @@ cut-positional-returns-2 : (t : ℕ) → cut-positional-lts.Need-returns-2 (
 ) (cut-positional-at t) cut-positional.Post
 cut-positional-returns-2 t c = all-told _ _ _ _ _ _ _ (cut-later (c .before .before .before .before .before .before .before .before .before .before .before .before .before .before .before .before .before .before .before .before .before .args .kinds .now) (c .before .before .before .before .before .before .before .before .before .before .before .before .before .before .before .before .before .before .before .before .before .args .text .now) (c .before .before .before .before .before .before .before .before .before .before .before .before .before .before .before .before .before .before .before .before .before .args .pairs .now) (c .before .before .before .before .before .before .before .before .before .before .before .before .before .before .before .before .before .before .before .before .before .args .run .place .0) (c .before .before .before .before .before .before .before .before .before .before .before .before .before .before .before .before .before .before .before .before .before .args .run .place .0 + c .before .before .before .before .before .before .before .before .before .before .before .before .before .before .before .before .before .before .before .before .before .args .run .count) (c .before .before .before .before .before .before .before .before .before .before .before .before .before .before .before .before .before .before .before .before .before .args .block) (c .before .before .before .before .before .before .before .before .before .before .before .before .before .before .before .before .before .before .before .before .before .args .has) (c .before .before .before .before .before .before .before .before .before .before .before .before .before .find-symbol .result .0) (c .before .before .before .before .before .before .before .before .before .before .before .before .before .find-symbol .ensures) (omega (arith, c .before .before .before .before .before .before .before .before .before .before .before .before .before .before .before .before .before .before .before .before .before .pre .1 .1 .0 .0)) (c .before .before .before .before .before .before .before .before .before .before .before .before .before .before .before .before .before .before .before .before .before .args .rows .now) (c .before .before .before .before .before .before .before .before .before .before .before .before .before .before .before .before .before .before .before .before .before .args .at) (c .before .before .before .before .before .before .before .before .before .before .if1 .left) (c .before .before .before .before .before .before .before .before .before .before .before .before .before .before .before .before .before .before .before .before .before .pre .1 .1 .1 .ends .first (omega (arith, c .before .before .before .before .before .before .before .before .before .before .before .before .before .before .before .before .before .before .before .before .before .pre .1 .1 .0 .0))) _ (c .before .before .before .before .before .before .before .before .run-of .ensures .0 _ _) _ (c .before .before .before .before .before .before .before .one-run .ensures) _ (c .before .before .before .before .before .before .put-row .ensures) _ _ (wrote-told _ _ _ _ _ (c .before .before .parse-attr .ensures .0) (c .before .before .parse-attr .ensures .1 .0))) refl (omega (arith, c .before .before .parse-attr .ensures .1 .1, c .before .before .before .before .before .before .before .before .before .before .before .before .before .before .before .before .before .before .before .before .before .pre .1 .1 .0 .0, c .before .before .before .before .before .before .before .before .before .before .before .before .before .before .before .before .before .before .before .before .before .pre .1 .1 .0 .1, c .before .before .before .before .before .before .before .before .before .before .before .before .before .before .before .before .before .before .before .before .before .pre .1 .1 .1 .within, c .before .before .before .before .before .before .before .before .before .before .before .before .before .before .before .before .before .before .before .before .before .pre .1 .0 .few, c .before .before .before .before .before .before .before .before .before .before .if1 .left, c .before .before .before .before .before .before .before .before .before .before .before .before .before .find-symbol .ensures .high))
 
--- src/lib.rt:67:9
 parse-attr-trim-requires : (t : ℕ) → parse-attr-lts.Need-trim-requires (
   trim-reads.Asked,
   trim-reads.Learnt,
@@ -297,7 +278,6 @@ parse-attr-trim-requires : (t : ℕ) → parse-attr-lts.Need-trim-requires (
 ) (parse-attr-at t) parse-attr.Post
 parse-attr-trim-requires t c κs = (c .before .before .before .before .pre .1 .1 .0, c .before .before .before .before .pre .1 .1 .1)
 
--- src/lib.rt:70:34
 parse-attr-one-run-requires : (t : ℕ) → parse-attr-lts.Need-one-run-requires (
   trim-reads.Asked,
   trim-reads.Learnt,
@@ -320,7 +300,6 @@ parse-attr-one-run-requires : (t : ℕ) → parse-attr-lts.Need-one-run-requires
 ) (parse-attr-at t) parse-attr.Post
 parse-attr-one-run-requires t c κs = tt
 
--- src/lib.rt:70:9
 parse-attr-put-one-requires : (t : ℕ) → parse-attr-lts.Need-put-one-requires (
   trim-reads.Asked,
   trim-reads.Learnt,
@@ -343,7 +322,6 @@ parse-attr-put-one-requires : (t : ℕ) → parse-attr-lts.Need-put-one-requires
 ) (parse-attr-at t) parse-attr.Post
 parse-attr-put-one-requires t c κs = (omega (arith, c .before .before .before .before .before .before .before .before .pre .1 .1 .2), subst (λ (r : Row). Fits r) (sym (c .one-run .ensures)) (record { first-place = omega (arith, c .before .before .before .before .before .before .before .before .pre .1 .1 .0, c .before .before .before .before .before .before .before .before .pre .1 .1 .1, c .before .before .before .before .before .before .before .before .pre .1 .1 .2, c .before .before .before .before .before .before .before .before .pre .1 .0 .few, c .before .before .before .trim .ensures .1 .within, c .before .before .before .trim .ensures .1 .few, c .before .before .before .trim .ensures .1 .within); first-count = omega (arith, c .before .before .before .before .before .before .before .before .pre .1 .1 .0, c .before .before .before .before .before .before .before .before .pre .1 .1 .1, c .before .before .before .before .before .before .before .before .pre .1 .1 .2, c .before .before .before .before .before .before .before .before .pre .1 .0 .few, c .before .before .before .trim .ensures .1 .within, c .before .before .before .trim .ensures .1 .few, c .before .before .before .trim .ensures .1 .within); second-place = omega arith; second-count = omega arith }))
 
--- src/lib.rt:70:9
 parse-attr-same-length : (t : ℕ) → parse-attr-lts.Need-same-length (
   trim-reads.Asked,
   trim-reads.Learnt,
@@ -366,7 +344,6 @@ parse-attr-same-length : (t : ℕ) → parse-attr-lts.Need-same-length (
 ) (parse-attr-at t) parse-attr.Post
 parse-attr-same-length t c = c .before .before .put-one .kept .0
 
--- src/lib.rt:70:9
 parse-attr-returns : (t : ℕ) → parse-attr-lts.Need-returns (
   trim-reads.Asked,
   trim-reads.Learnt,
@@ -389,7 +366,6 @@ parse-attr-returns : (t : ℕ) → parse-attr-lts.Need-returns (
 ) (parse-attr-at t) parse-attr.Post
 parse-attr-returns t c = all-told _ _ _ _ _ _ _ (c .before .before .put-one .ensures) (whole-empty (c .before .before .before .before .before .before .before .before .before .before .before .args .kinds .now) (c .before .before .before .before .before .before .before .before .before .before .before .args .text .now) (c .before .before .before .before .before .before .before .before .before .before .before .args .pairs .now) (c .before .before .before .before .before .before .before .before .before .before .before .args .from .0) (c .before .before .before .before .before .before .before .before .before .before .before .args .to .0) (c .before .before .before .before .before .before .before .before .before .before .before .args .block) (c .before .before .before .before .before .before .before .before .before .before .before .args .has) (c .before .before .before .before .before .before .trim .result) (c .before .before .before .before .before .before .trim .ensures .0) (c .before .before .before .before .before .before .trim .ensures .1) (c .before .before .before .before .before .if1 .taken) _ (c .before .before .before .one-run .ensures)) (omega (arith, c .before .before .put-one .ensures .wrote .count))
 
--- src/lib.rt:73:26
 parse-attr-add-t31 : (t : ℕ) → parse-attr-lts.Need-add-t31 (
   trim-reads.Asked,
   trim-reads.Learnt,
@@ -412,7 +388,6 @@ parse-attr-add-t31 : (t : ℕ) → parse-attr-lts.Need-add-t31 (
 ) (parse-attr-at t) parse-attr.Post
 parse-attr-add-t31 t c = omega (arith, c .before .before .before .before .before .before .before .before .pre .1 .1 .0, c .before .before .before .before .before .before .before .before .pre .1 .1 .1, c .before .before .before .before .before .before .before .before .pre .1 .1 .2, c .before .before .before .before .before .before .before .before .pre .1 .0 .few, c .before .before .before .trim .ensures .1 .within, c .before .before .before .trim .ensures .1 .few)
 
--- src/lib.rt:74:9
 parse-attr-attr-ir-requires : (t : ℕ) → parse-attr-lts.Need-attr-ir-requires (
   trim-reads.Asked,
   trim-reads.Learnt,
@@ -435,7 +410,6 @@ parse-attr-attr-ir-requires : (t : ℕ) → parse-attr-lts.Need-attr-ir-requires
 ) (parse-attr-at t) parse-attr.Post
 parse-attr-attr-ir-requires t c κs = (c .before .before .before .before .before .before .before .before .pre .1 .0, (omega arith, omega (arith, c .before .before .before .before .before .before .before .before .pre .1 .1 .0, c .before .before .before .before .before .before .before .before .pre .1 .1 .1, c .before .before .before .before .before .before .before .before .pre .1 .1 .2, c .before .before .before .before .before .before .before .before .pre .1 .0 .few, c .before .before .before .trim .ensures .1 .within, c .before .before .before .trim .ensures .1 .few)))
 
--- src/lib.rt:76:30
 parse-attr-enum-known-ir : (t : ℕ) → parse-attr-lts.Need-enum-known-ir (
   trim-reads.Asked,
   trim-reads.Learnt,
@@ -458,7 +432,6 @@ parse-attr-enum-known-ir : (t : ℕ) → parse-attr-lts.Need-enum-known-ir (
 ) (parse-attr-at t) parse-attr.Post
 parse-attr-enum-known-ir t c = c .match .keys1
 
--- src/lib.rt:78:17
 parse-attr-cut-positional-requires : (t : ℕ) → parse-attr-lts.Need-cut-positional-requires (
   trim-reads.Asked,
   trim-reads.Learnt,
@@ -481,7 +454,6 @@ parse-attr-cut-positional-requires : (t : ℕ) → parse-attr-lts.Need-cut-posit
 ) (parse-attr-at t) parse-attr.Post
 parse-attr-cut-positional-requires t c κs = (omega (arith, c .before .before .before .before .before .before .before .before .before .before .before .before .before .before .pre .0, c .before .before .before .before .before .before .before .before .before .before .before .before .before .before .pre .1 .1 .0, c .before .before .before .before .before .before .before .before .before .before .before .before .before .before .pre .1 .1 .1, c .before .before .before .before .before .before .before .before .before .before .before .before .before .before .pre .1 .1 .2, c .before .before .before .before .before .before .before .before .before .before .before .before .before .before .pre .1 .0 .few, c .before .before .before .before .before .before .before .before .before .trim .ensures .1 .within, c .before .before .before .before .before .before .before .before .before .trim .ensures .1 .few, (subst (λ (x : AttrIr). Bounded (c .before .before .before .before .before .before .before .before .before .before .before .before .before .before .args .kinds .now) (c .before .before .before .before .before .before .before .before .before .trim .result .place .0) (c .before .before .before .before .before .before .before .before .before .trim .result .place .0 + c .before .before .before .before .before .before .before .before .before .trim .result .count) x) (c .before .before .before .ir .given .1) (c .before .before .before .before .before .attr-ir .ensures .1 .1)) .few), (c .before .before .before .before .before .before .before .before .before .before .before .before .before .before .pre .1 .0, ((cut-some (c .before .before .before .before .before .before .before .before .before .before .before .before .before .before .args .kinds .now) (c .before .before .before .before .before .before .before .before .before .before .before .before .before .before .args .text .now) (c .before .before .before .before .before .before .before .before .before .before .before .before .before .before .args .pairs .now) (c .before .before .before .before .before .before .before .before .before .before .before .before .before .before .args .from .0) (c .before .before .before .before .before .before .before .before .before .before .before .before .before .before .args .to .0) (c .before .before .before .before .before .before .before .before .before .before .before .before .before .before .args .block) (c .before .before .before .before .before .before .before .before .before .before .before .before .before .before .args .has) (c .before .before .before .before .before .before .before .before .before .trim .result) (c .before .before .before .before .before .before .before .before .before .trim .ensures .0) (c .before .before .before .before .before .before .before .before .before .trim .ensures .1) (c .before .before .before .before .before .before .before .before .if1 .left) (c .before .before .before .before .before .attr-ir .result) (c .before .before .before .before .before .attr-ir .ensures .1 .0) (c .before .before .before .ir .given .0 .0) (c .before .before .before .ir .given .0 .1 .0) (c .before .before .before .ir .given .1) (c .before .if2 .taken), omega (arith, c .before .before .before .before .before .before .before .before .before .before .before .before .before .before .pre .1 .1 .0, c .before .before .before .before .before .before .before .before .before .before .before .before .before .before .pre .1 .1 .1, c .before .before .before .before .before .before .before .before .before .before .before .before .before .before .pre .1 .1 .2, c .before .before .before .before .before .before .before .before .before .before .before .before .before .before .pre .1 .0 .few, c .before .before .before .before .before .before .before .before .before .trim .ensures .1 .within, c .before .before .before .before .before .before .before .before .before .trim .ensures .1 .few, (subst (λ (x : AttrIr). Bounded (c .before .before .before .before .before .before .before .before .before .before .before .before .before .before .args .kinds .now) (c .before .before .before .before .before .before .before .before .before .trim .result .place .0) (c .before .before .before .before .before .before .before .before .before .trim .result .place .0 + c .before .before .before .before .before .before .before .before .before .trim .result .count) x) (c .before .before .before .ir .given .1) (c .before .before .before .before .before .attr-ir .ensures .1 .1)) .few)), in-own _ _ _ _ (subst (λ (x : AttrIr). Bounded (c .before .before .before .before .before .before .before .before .before .before .before .before .before .before .args .kinds .now) (c .before .before .before .before .before .before .before .before .before .trim .result .place .0) (c .before .before .before .before .before .before .before .before .before .trim .result .place .0 + c .before .before .before .before .before .before .before .before .before .trim .result .count) x) (c .before .before .before .ir .given .1) (c .before .before .before .before .before .attr-ir .ensures .1 .1)) (omega (arith, c .before .before .before .before .before .before .before .before .before .before .before .before .before .before .pre .1 .1 .0, c .before .before .before .before .before .before .before .before .before .before .before .before .before .before .pre .1 .1 .1, c .before .before .before .before .before .before .before .before .before .before .before .before .before .before .pre .1 .1 .2, c .before .before .before .before .before .before .before .before .before .before .before .before .before .before .pre .1 .0 .few, c .before .before .before .before .before .before .before .before .before .trim .ensures .1 .within, c .before .before .before .before .before .before .before .before .before .trim .ensures .1 .few)))))
 
--- src/lib.rt:78:17
 parse-attr-same-length-2 : (t : ℕ) → parse-attr-lts.Need-same-length-2 (
   trim-reads.Asked,
   trim-reads.Learnt,
@@ -504,7 +476,6 @@ parse-attr-same-length-2 : (t : ℕ) → parse-attr-lts.Need-same-length-2 (
 ) (parse-attr-at t) parse-attr.Post
 parse-attr-same-length-2 t c = c .before .before .cut-positional .kept .1 .1 .1 .1 .1 .1 .0
 
--- src/lib.rt:78:17
 parse-attr-returns-2 : (t : ℕ) → parse-attr-lts.Need-returns-2 (
   trim-reads.Asked,
   trim-reads.Learnt,
@@ -527,7 +498,6 @@ parse-attr-returns-2 : (t : ℕ) → parse-attr-lts.Need-returns-2 (
 ) (parse-attr-at t) parse-attr.Post
 parse-attr-returns-2 t c = (c .before .before .cut-positional .ensures .0 ∙ ap (written (c .before .before .before .before .before .before .before .before .before .before .before .before .before .before .before .before .before .args .at)) (whole-cut (c .before .before .before .before .before .before .before .before .before .before .before .before .before .before .before .before .before .args .kinds .now) (c .before .before .before .before .before .before .before .before .before .before .before .before .before .before .before .before .before .args .text .now) (c .before .before .before .before .before .before .before .before .before .before .before .before .before .before .before .before .before .args .pairs .now) (c .before .before .before .before .before .before .before .before .before .before .before .before .before .before .before .before .before .args .from .0) (c .before .before .before .before .before .before .before .before .before .before .before .before .before .before .before .before .before .args .to .0) (c .before .before .before .before .before .before .before .before .before .before .before .before .before .before .before .before .before .args .block) (c .before .before .before .before .before .before .before .before .before .before .before .before .before .before .before .before .before .args .has) (c .before .before .before .before .before .before .before .before .before .before .before .before .trim .result) (c .before .before .before .before .before .before .before .before .before .before .before .before .trim .ensures .0) (c .before .before .before .before .before .before .before .before .before .before .before .before .trim .ensures .1) (c .before .before .before .before .before .before .before .before .before .before .before .if1 .left) (c .before .before .before .before .before .before .before .before .attr-ir .result) (c .before .before .before .before .before .before .before .before .attr-ir .ensures .1 .0) (c .before .before .before .before .before .before .ir .given .0 .0) (c .before .before .before .before .before .before .ir .given .0 .1 .0) (c .before .before .before .before .before .before .ir .given .1) (c .before .before .before .before .if2 .taken)), (c .before .before .cut-positional .ensures .1 .0 ∙ ap (λ (x : Read). withRows (c .before .before .before .before .before .before .before .before .before .before .before .before .before .before .before .before .before .args .rows .now) (c .before .before .before .before .before .before .before .before .before .before .before .before .before .before .before .before .before .args .at) (x .rows)) (whole-cut (c .before .before .before .before .before .before .before .before .before .before .before .before .before .before .before .before .before .args .kinds .now) (c .before .before .before .before .before .before .before .before .before .before .before .before .before .before .before .before .before .args .text .now) (c .before .before .before .before .before .before .before .before .before .before .before .before .before .before .before .before .before .args .pairs .now) (c .before .before .before .before .before .before .before .before .before .before .before .before .before .before .before .before .before .args .from .0) (c .before .before .before .before .before .before .before .before .before .before .before .before .before .before .before .before .before .args .to .0) (c .before .before .before .before .before .before .before .before .before .before .before .before .before .before .before .before .before .args .block) (c .before .before .before .before .before .before .before .before .before .before .before .before .before .before .before .before .before .args .has) (c .before .before .before .before .before .before .before .before .before .before .before .before .trim .result) (c .before .before .before .before .before .before .before .before .before .before .before .before .trim .ensures .0) (c .before .before .before .before .before .before .before .before .before .before .before .before .trim .ensures .1) (c .before .before .before .before .before .before .before .before .before .before .before .if1 .left) (c .before .before .before .before .before .before .before .before .attr-ir .result) (c .before .before .before .before .before .before .before .before .attr-ir .ensures .1 .0) (c .before .before .before .before .before .before .ir .given .0 .0) (c .before .before .before .before .before .before .ir .given .0 .1 .0) (c .before .before .before .before .before .before .ir .given .1) (c .before .before .before .before .if2 .taken)), omega (arith, c .before .before .cut-positional .ensures .1 .1, c .before .before .before .before .before .before .before .before .before .before .before .before .before .before .before .before .before .pre .1 .1 .0, c .before .before .before .before .before .before .before .before .before .before .before .before .before .before .before .before .before .pre .1 .1 .1, c .before .before .before .before .before .before .before .before .before .before .before .before .before .before .before .before .before .pre .1 .1 .2, c .before .before .before .before .before .before .before .before .before .before .before .before .before .before .before .before .before .pre .1 .0 .few, c .before .before .before .before .before .before .before .before .before .before .before .before .trim .ensures .1 .within, c .before .before .before .before .before .before .before .before .before .before .before .before .trim .ensures .1 .few, (subst (λ (x : AttrIr). Bounded (c .before .before .before .before .before .before .before .before .before .before .before .before .before .before .before .before .before .args .kinds .now) (c .before .before .before .before .before .before .before .before .before .before .before .before .trim .result .place .0) (c .before .before .before .before .before .before .before .before .before .before .before .before .trim .result .place .0 + c .before .before .before .before .before .before .before .before .before .before .before .before .trim .result .count) x) (c .before .before .before .before .before .before .ir .given .1) (c .before .before .before .before .before .before .before .before .attr-ir .ensures .1 .1)) .few)))
 
--- src/lib.rt:80:31
 parse-attr-one-run-requires-2 : (t : ℕ) → parse-attr-lts.Need-one-run-requires-2 (
   trim-reads.Asked,
   trim-reads.Learnt,
@@ -550,7 +520,6 @@ parse-attr-one-run-requires-2 : (t : ℕ) → parse-attr-lts.Need-one-run-requir
 ) (parse-attr-at t) parse-attr.Post
 parse-attr-one-run-requires-2 t c κs = tt
 
--- src/lib.rt:80:13
 parse-attr-put-one-requires-2 : (t : ℕ) → parse-attr-lts.Need-put-one-requires-2 (
   trim-reads.Asked,
   trim-reads.Learnt,
@@ -573,7 +542,6 @@ parse-attr-put-one-requires-2 : (t : ℕ) → parse-attr-lts.Need-put-one-requir
 ) (parse-attr-at t) parse-attr.Post
 parse-attr-put-one-requires-2 t c κs = (omega (arith, c .before .before .before .before .before .before .before .before .before .before .before .before .before .before .before .pre .1 .1 .0, c .before .before .before .before .before .before .before .before .before .before .before .before .before .before .before .pre .1 .1 .1, c .before .before .before .before .before .before .before .before .before .before .before .before .before .before .before .pre .1 .1 .2, c .before .before .before .before .before .before .before .before .before .before .before .before .before .before .before .pre .1 .0 .few, c .before .before .before .before .before .before .before .before .before .before .trim .ensures .1 .within, c .before .before .before .before .before .before .before .before .before .before .trim .ensures .1 .few), subst (λ (r : Row). Fits r) (sym (c .one-run2 .ensures)) (record { first-place = omega (arith, c .before .before .before .before .before .before .before .before .before .before .before .before .before .before .before .pre .1 .1 .0, c .before .before .before .before .before .before .before .before .before .before .before .before .before .before .before .pre .1 .1 .1, c .before .before .before .before .before .before .before .before .before .before .before .before .before .before .before .pre .1 .1 .2, c .before .before .before .before .before .before .before .before .before .before .before .before .before .before .before .pre .1 .0 .few, c .before .before .before .before .before .before .before .before .before .before .trim .ensures .1 .within, c .before .before .before .before .before .before .before .before .before .before .trim .ensures .1 .few, (subst (λ (x : AttrIr). Bounded (c .before .before .before .before .before .before .before .before .before .before .before .before .before .before .before .args .kinds .now) (c .before .before .before .before .before .before .before .before .before .before .trim .result .place .0) (c .before .before .before .before .before .before .before .before .before .before .trim .result .place .0 + c .before .before .before .before .before .before .before .before .before .before .trim .result .count) x) (c .before .before .before .before .ir .given .1) (c .before .before .before .before .before .before .attr-ir .ensures .1 .1)) .within); first-count = omega (arith, c .before .before .before .before .before .before .before .before .before .before .before .before .before .before .before .pre .1 .1 .0, c .before .before .before .before .before .before .before .before .before .before .before .before .before .before .before .pre .1 .1 .1, c .before .before .before .before .before .before .before .before .before .before .before .before .before .before .before .pre .1 .1 .2, c .before .before .before .before .before .before .before .before .before .before .before .before .before .before .before .pre .1 .0 .few, c .before .before .before .before .before .before .before .before .before .before .trim .ensures .1 .within, c .before .before .before .before .before .before .before .before .before .before .trim .ensures .1 .few, (subst (λ (x : AttrIr). Bounded (c .before .before .before .before .before .before .before .before .before .before .before .before .before .before .before .args .kinds .now) (c .before .before .before .before .before .before .before .before .before .before .trim .result .place .0) (c .before .before .before .before .before .before .before .before .before .before .trim .result .place .0 + c .before .before .before .before .before .before .before .before .before .before .trim .result .count) x) (c .before .before .before .before .ir .given .1) (c .before .before .before .before .before .before .attr-ir .ensures .1 .1)) .within); second-place = omega arith; second-count = omega arith }))
 
--- src/lib.rt:82:25
 parse-attr-enum-known-ir-2 : (t : ℕ) → parse-attr-lts.Need-enum-known-ir-2 (
   trim-reads.Asked,
   trim-reads.Learnt,
@@ -596,7 +564,6 @@ parse-attr-enum-known-ir-2 : (t : ℕ) → parse-attr-lts.Need-enum-known-ir-2 (
 ) (parse-attr-at t) parse-attr.Post
 parse-attr-enum-known-ir-2 t c = c .match .keys2
 
--- src/lib.rt:82:42
 parse-attr-put-named-requires : (t : ℕ) → parse-attr-lts.Need-put-named-requires (
   trim-reads.Asked,
   trim-reads.Learnt,
@@ -619,7 +586,6 @@ parse-attr-put-named-requires : (t : ℕ) → parse-attr-lts.Need-put-named-requ
 ) (parse-attr-at t) parse-attr.Post
 parse-attr-put-named-requires t c κs = (omega (arith, c .before .before .before .before .before .before .before .before .before .before .before .before .before .pre .1 .1 .0, c .before .before .before .before .before .before .before .before .before .before .before .before .before .pre .1 .1 .1, c .before .before .before .before .before .before .before .before .before .before .before .before .before .pre .1 .1 .2, c .before .before .before .before .before .before .before .before .before .before .before .before .before .pre .1 .0 .few, c .before .before .before .before .before .before .before .before .trim .ensures .1 .within, c .before .before .before .before .before .before .before .before .trim .ensures .1 .few), record { first-place = omega (arith, c .before .before .before .before .before .before .before .before .before .before .before .before .before .pre .1 .1 .0, c .before .before .before .before .before .before .before .before .before .before .before .before .before .pre .1 .1 .1, c .before .before .before .before .before .before .before .before .before .before .before .before .before .pre .1 .1 .2, c .before .before .before .before .before .before .before .before .before .before .before .before .before .pre .1 .0 .few, c .before .before .before .before .before .before .before .before .trim .ensures .1 .within, c .before .before .before .before .before .before .before .before .trim .ensures .1 .few, (subst (λ (x : AttrIr). Bounded (c .before .before .before .before .before .before .before .before .before .before .before .before .before .args .kinds .now) (c .before .before .before .before .before .before .before .before .trim .result .place .0) (c .before .before .before .before .before .before .before .before .trim .result .place .0 + c .before .before .before .before .before .before .before .before .trim .result .count) x) (c .before .before .ir2 .given .1) (c .before .before .before .before .attr-ir .ensures .1 .1)) .0 .within); first-count = omega (arith, c .before .before .before .before .before .before .before .before .before .before .before .before .before .pre .1 .1 .0, c .before .before .before .before .before .before .before .before .before .before .before .before .before .pre .1 .1 .1, c .before .before .before .before .before .before .before .before .before .before .before .before .before .pre .1 .1 .2, c .before .before .before .before .before .before .before .before .before .before .before .before .before .pre .1 .0 .few, c .before .before .before .before .before .before .before .before .trim .ensures .1 .within, c .before .before .before .before .before .before .before .before .trim .ensures .1 .few, (subst (λ (x : AttrIr). Bounded (c .before .before .before .before .before .before .before .before .before .before .before .before .before .args .kinds .now) (c .before .before .before .before .before .before .before .before .trim .result .place .0) (c .before .before .before .before .before .before .before .before .trim .result .place .0 + c .before .before .before .before .before .before .before .before .trim .result .count) x) (c .before .before .ir2 .given .1) (c .before .before .before .before .attr-ir .ensures .1 .1)) .0 .within); second-place = omega (arith, c .before .before .before .before .before .before .before .before .before .before .before .before .before .pre .1 .1 .0, c .before .before .before .before .before .before .before .before .before .before .before .before .before .pre .1 .1 .1, c .before .before .before .before .before .before .before .before .before .before .before .before .before .pre .1 .1 .2, c .before .before .before .before .before .before .before .before .before .before .before .before .before .pre .1 .0 .few, c .before .before .before .before .before .before .before .before .trim .ensures .1 .within, c .before .before .before .before .before .before .before .before .trim .ensures .1 .few, (subst (λ (x : AttrIr). Bounded (c .before .before .before .before .before .before .before .before .before .before .before .before .before .args .kinds .now) (c .before .before .before .before .before .before .before .before .trim .result .place .0) (c .before .before .before .before .before .before .before .before .trim .result .place .0 + c .before .before .before .before .before .before .before .before .trim .result .count) x) (c .before .before .ir2 .given .1) (c .before .before .before .before .attr-ir .ensures .1 .1)) .1 .within); second-count = omega (arith, c .before .before .before .before .before .before .before .before .before .before .before .before .before .pre .1 .1 .0, c .before .before .before .before .before .before .before .before .before .before .before .before .before .pre .1 .1 .1, c .before .before .before .before .before .before .before .before .before .before .before .before .before .pre .1 .1 .2, c .before .before .before .before .before .before .before .before .before .before .before .before .before .pre .1 .0 .few, c .before .before .before .before .before .before .before .before .trim .ensures .1 .within, c .before .before .before .before .before .before .before .before .trim .ensures .1 .few, (subst (λ (x : AttrIr). Bounded (c .before .before .before .before .before .before .before .before .before .before .before .before .before .args .kinds .now) (c .before .before .before .before .before .before .before .before .trim .result .place .0) (c .before .before .before .before .before .before .before .before .trim .result .place .0 + c .before .before .before .before .before .before .before .before .trim .result .count) x) (c .before .before .ir2 .given .1) (c .before .before .before .before .attr-ir .ensures .1 .1)) .1 .within) })
 
--- src/lib.rt:83:25
 parse-attr-enum-known-ir-3 : (t : ℕ) → parse-attr-lts.Need-enum-known-ir-3 (
   trim-reads.Asked,
   trim-reads.Learnt,
@@ -642,7 +608,6 @@ parse-attr-enum-known-ir-3 : (t : ℕ) → parse-attr-lts.Need-enum-known-ir-3 (
 ) (parse-attr-at t) parse-attr.Post
 parse-attr-enum-known-ir-3 t c = c .match .keys3
 
--- src/lib.rt:83:42
 parse-attr-put-named-requires-2 : (t : ℕ) → parse-attr-lts.Need-put-named-requires-2 (
   trim-reads.Asked,
   trim-reads.Learnt,
@@ -665,7 +630,6 @@ parse-attr-put-named-requires-2 : (t : ℕ) → parse-attr-lts.Need-put-named-re
 ) (parse-attr-at t) parse-attr.Post
 parse-attr-put-named-requires-2 t c κs = (omega (arith, c .before .before .before .before .before .before .before .before .before .before .before .before .before .pre .1 .1 .0, c .before .before .before .before .before .before .before .before .before .before .before .before .before .pre .1 .1 .1, c .before .before .before .before .before .before .before .before .before .before .before .before .before .pre .1 .1 .2, c .before .before .before .before .before .before .before .before .before .before .before .before .before .pre .1 .0 .few, c .before .before .before .before .before .before .before .before .trim .ensures .1 .within, c .before .before .before .before .before .before .before .before .trim .ensures .1 .few), record { first-place = omega (arith, c .before .before .before .before .before .before .before .before .before .before .before .before .before .pre .1 .1 .0, c .before .before .before .before .before .before .before .before .before .before .before .before .before .pre .1 .1 .1, c .before .before .before .before .before .before .before .before .before .before .before .before .before .pre .1 .1 .2, c .before .before .before .before .before .before .before .before .before .before .before .before .before .pre .1 .0 .few, c .before .before .before .before .before .before .before .before .trim .ensures .1 .within, c .before .before .before .before .before .before .before .before .trim .ensures .1 .few, (subst (λ (x : AttrIr). Bounded (c .before .before .before .before .before .before .before .before .before .before .before .before .before .args .kinds .now) (c .before .before .before .before .before .before .before .before .trim .result .place .0) (c .before .before .before .before .before .before .before .before .trim .result .place .0 + c .before .before .before .before .before .before .before .before .trim .result .count) x) (c .before .before .ir3 .given .1) (c .before .before .before .before .attr-ir .ensures .1 .1)) .0 .within); first-count = omega (arith, c .before .before .before .before .before .before .before .before .before .before .before .before .before .pre .1 .1 .0, c .before .before .before .before .before .before .before .before .before .before .before .before .before .pre .1 .1 .1, c .before .before .before .before .before .before .before .before .before .before .before .before .before .pre .1 .1 .2, c .before .before .before .before .before .before .before .before .before .before .before .before .before .pre .1 .0 .few, c .before .before .before .before .before .before .before .before .trim .ensures .1 .within, c .before .before .before .before .before .before .before .before .trim .ensures .1 .few, (subst (λ (x : AttrIr). Bounded (c .before .before .before .before .before .before .before .before .before .before .before .before .before .args .kinds .now) (c .before .before .before .before .before .before .before .before .trim .result .place .0) (c .before .before .before .before .before .before .before .before .trim .result .place .0 + c .before .before .before .before .before .before .before .before .trim .result .count) x) (c .before .before .ir3 .given .1) (c .before .before .before .before .attr-ir .ensures .1 .1)) .0 .within); second-place = omega (arith, c .before .before .before .before .before .before .before .before .before .before .before .before .before .pre .1 .1 .0, c .before .before .before .before .before .before .before .before .before .before .before .before .before .pre .1 .1 .1, c .before .before .before .before .before .before .before .before .before .before .before .before .before .pre .1 .1 .2, c .before .before .before .before .before .before .before .before .before .before .before .before .before .pre .1 .0 .few, c .before .before .before .before .before .before .before .before .trim .ensures .1 .within, c .before .before .before .before .before .before .before .before .trim .ensures .1 .few, (subst (λ (x : AttrIr). Bounded (c .before .before .before .before .before .before .before .before .before .before .before .before .before .args .kinds .now) (c .before .before .before .before .before .before .before .before .trim .result .place .0) (c .before .before .before .before .before .before .before .before .trim .result .place .0 + c .before .before .before .before .before .before .before .before .trim .result .count) x) (c .before .before .ir3 .given .1) (c .before .before .before .before .attr-ir .ensures .1 .1)) .1 .within); second-count = omega (arith, c .before .before .before .before .before .before .before .before .before .before .before .before .before .pre .1 .1 .0, c .before .before .before .before .before .before .before .before .before .before .before .before .before .pre .1 .1 .1, c .before .before .before .before .before .before .before .before .before .before .before .before .before .pre .1 .1 .2, c .before .before .before .before .before .before .before .before .before .before .before .before .before .pre .1 .0 .few, c .before .before .before .before .before .before .before .before .trim .ensures .1 .within, c .before .before .before .before .before .before .before .before .trim .ensures .1 .few, (subst (λ (x : AttrIr). Bounded (c .before .before .before .before .before .before .before .before .before .before .before .before .before .args .kinds .now) (c .before .before .before .before .before .before .before .before .trim .result .place .0) (c .before .before .before .before .before .before .before .before .trim .result .place .0 + c .before .before .before .before .before .before .before .before .trim .result .count) x) (c .before .before .ir3 .given .1) (c .before .before .before .before .attr-ir .ensures .1 .1)) .1 .within) })
 
--- src/lib.rt:84:25
 parse-attr-enum-known-ir-4 : (t : ℕ) → parse-attr-lts.Need-enum-known-ir-4 (
   trim-reads.Asked,
   trim-reads.Learnt,
@@ -688,7 +652,6 @@ parse-attr-enum-known-ir-4 : (t : ℕ) → parse-attr-lts.Need-enum-known-ir-4 (
 ) (parse-attr-at t) parse-attr.Post
 parse-attr-enum-known-ir-4 t c = c .match .keys4
 
--- src/lib.rt:84:33
 parse-attr-put-groups-requires : (t : ℕ) → parse-attr-lts.Need-put-groups-requires (
   trim-reads.Asked,
   trim-reads.Learnt,
@@ -711,7 +674,6 @@ parse-attr-put-groups-requires : (t : ℕ) → parse-attr-lts.Need-put-groups-re
 ) (parse-attr-at t) parse-attr.Post
 parse-attr-put-groups-requires t c κs = ((omega (arith, c .before .before .before .before .before .before .before .before .before .before .before .before .before .pre .1 .1 .0, c .before .before .before .before .before .before .before .before .before .before .before .before .before .pre .1 .1 .1, c .before .before .before .before .before .before .before .before .before .before .before .before .before .pre .1 .1 .2, c .before .before .before .before .before .before .before .before .before .before .before .before .before .pre .1 .0 .few, c .before .before .before .before .before .before .before .before .trim .ensures .1 .within, c .before .before .before .before .before .before .before .before .trim .ensures .1 .few, (subst (λ (x : AttrIr). Bounded (c .before .before .before .before .before .before .before .before .before .before .before .before .before .args .kinds .now) (c .before .before .before .before .before .before .before .before .trim .result .place .0) (c .before .before .before .before .before .before .before .before .trim .result .place .0 + c .before .before .before .before .before .before .before .before .trim .result .count) x) (c .before .before .ir4 .given .1) (c .before .before .before .before .attr-ir .ensures .1 .1)) .within), c .before .before .before .before .before .before .before .before .before .before .before .before .before .pre .1 .0 .few, λ e. omega (arith, e)), omega (arith, c .before .before .before .before .before .before .before .before .before .before .before .before .before .pre .1 .1 .0, c .before .before .before .before .before .before .before .before .before .before .before .before .before .pre .1 .1 .1, c .before .before .before .before .before .before .before .before .before .before .before .before .before .pre .1 .1 .2, c .before .before .before .before .before .before .before .before .before .before .before .before .before .pre .1 .0 .few, c .before .before .before .before .before .before .before .before .trim .ensures .1 .within, c .before .before .before .before .before .before .before .before .trim .ensures .1 .few, (subst (λ (x : AttrIr). Bounded (c .before .before .before .before .before .before .before .before .before .before .before .before .before .args .kinds .now) (c .before .before .before .before .before .before .before .before .trim .result .place .0) (c .before .before .before .before .before .before .before .before .trim .result .place .0 + c .before .before .before .before .before .before .before .before .trim .result .count) x) (c .before .before .ir4 .given .1) (c .before .before .before .before .attr-ir .ensures .1 .1)) .few))
 
--- src/lib.rt:85:23
 parse-attr-enum-known-ir-5 : (t : ℕ) → parse-attr-lts.Need-enum-known-ir-5 (
   trim-reads.Asked,
   trim-reads.Learnt,
@@ -734,7 +696,6 @@ parse-attr-enum-known-ir-5 : (t : ℕ) → parse-attr-lts.Need-enum-known-ir-5 (
 ) (parse-attr-at t) parse-attr.Post
 parse-attr-enum-known-ir-5 t c = c .match .keys5
 
--- src/lib.rt:85:31
 parse-attr-put-groups-requires-2 : (t : ℕ) → parse-attr-lts.Need-put-groups-requires-2 (
   trim-reads.Asked,
   trim-reads.Learnt,
@@ -757,7 +718,6 @@ parse-attr-put-groups-requires-2 : (t : ℕ) → parse-attr-lts.Need-put-groups-
 ) (parse-attr-at t) parse-attr.Post
 parse-attr-put-groups-requires-2 t c κs = ((omega (arith, c .before .before .before .before .before .before .before .before .before .before .before .before .before .pre .1 .1 .0, c .before .before .before .before .before .before .before .before .before .before .before .before .before .pre .1 .1 .1, c .before .before .before .before .before .before .before .before .before .before .before .before .before .pre .1 .1 .2, c .before .before .before .before .before .before .before .before .before .before .before .before .before .pre .1 .0 .few, c .before .before .before .before .before .before .before .before .trim .ensures .1 .within, c .before .before .before .before .before .before .before .before .trim .ensures .1 .few, (subst (λ (x : AttrIr). Bounded (c .before .before .before .before .before .before .before .before .before .before .before .before .before .args .kinds .now) (c .before .before .before .before .before .before .before .before .trim .result .place .0) (c .before .before .before .before .before .before .before .before .trim .result .place .0 + c .before .before .before .before .before .before .before .before .trim .result .count) x) (c .before .before .ir5 .given .1) (c .before .before .before .before .attr-ir .ensures .1 .1)) .within), c .before .before .before .before .before .before .before .before .before .before .before .before .before .pre .1 .0 .few, λ e. omega (arith, e)), omega (arith, c .before .before .before .before .before .before .before .before .before .before .before .before .before .pre .1 .1 .0, c .before .before .before .before .before .before .before .before .before .before .before .before .before .pre .1 .1 .1, c .before .before .before .before .before .before .before .before .before .before .before .before .before .pre .1 .1 .2, c .before .before .before .before .before .before .before .before .before .before .before .before .before .pre .1 .0 .few, c .before .before .before .before .before .before .before .before .trim .ensures .1 .within, c .before .before .before .before .before .before .before .before .trim .ensures .1 .few, (subst (λ (x : AttrIr). Bounded (c .before .before .before .before .before .before .before .before .before .before .before .before .before .args .kinds .now) (c .before .before .before .before .before .before .before .before .trim .result .place .0) (c .before .before .before .before .before .before .before .before .trim .result .place .0 + c .before .before .before .before .before .before .before .before .trim .result .count) x) (c .before .before .ir5 .given .1) (c .before .before .before .before .attr-ir .ensures .1 .1)) .few))
 
--- src/lib.rt:86:20
 parse-attr-enum-known-ir-6 : (t : ℕ) → parse-attr-lts.Need-enum-known-ir-6 (
   trim-reads.Asked,
   trim-reads.Learnt,
@@ -780,7 +740,6 @@ parse-attr-enum-known-ir-6 : (t : ℕ) → parse-attr-lts.Need-enum-known-ir-6 (
 ) (parse-attr-at t) parse-attr.Post
 parse-attr-enum-known-ir-6 t c = c .match .keys6
 
--- src/lib.rt:86:28
 parse-attr-put-id-requires : (t : ℕ) → parse-attr-lts.Need-put-id-requires (
   trim-reads.Asked,
   trim-reads.Learnt,
@@ -803,7 +762,6 @@ parse-attr-put-id-requires : (t : ℕ) → parse-attr-lts.Need-put-id-requires (
 ) (parse-attr-at t) parse-attr.Post
 parse-attr-put-id-requires t c κs = (omega (arith, c .before .before .before .before .before .before .before .before .before .before .before .before .before .pre .1 .1 .0, c .before .before .before .before .before .before .before .before .before .before .before .before .before .pre .1 .1 .1, c .before .before .before .before .before .before .before .before .before .before .before .before .before .pre .1 .1 .2, c .before .before .before .before .before .before .before .before .before .before .before .before .before .pre .1 .0 .few, c .before .before .before .before .before .before .before .before .trim .ensures .1 .within, c .before .before .before .before .before .before .before .before .trim .ensures .1 .few), omega (arith, c .before .before .before .before .before .before .before .before .before .before .before .before .before .pre .1 .1 .0, c .before .before .before .before .before .before .before .before .before .before .before .before .before .pre .1 .1 .1, c .before .before .before .before .before .before .before .before .before .before .before .before .before .pre .1 .1 .2, c .before .before .before .before .before .before .before .before .before .before .before .before .before .pre .1 .0 .few, c .before .before .before .before .before .before .before .before .trim .ensures .1 .within, c .before .before .before .before .before .before .before .before .trim .ensures .1 .few, (subst (λ (x : AttrIr). Bounded (c .before .before .before .before .before .before .before .before .before .before .before .before .before .args .kinds .now) (c .before .before .before .before .before .before .before .before .trim .result .place .0) (c .before .before .before .before .before .before .before .before .trim .result .place .0 + c .before .before .before .before .before .before .before .before .trim .result .count) x) (c .before .before .ir6 .given .1) (c .before .before .before .before .attr-ir .ensures .1 .1)) .within), omega (arith, c .before .before .before .before .before .before .before .before .before .before .before .before .before .pre .1 .1 .0, c .before .before .before .before .before .before .before .before .before .before .before .before .before .pre .1 .1 .1, c .before .before .before .before .before .before .before .before .before .before .before .before .before .pre .1 .1 .2, c .before .before .before .before .before .before .before .before .before .before .before .before .before .pre .1 .0 .few, c .before .before .before .before .before .before .before .before .trim .ensures .1 .within, c .before .before .before .before .before .before .before .before .trim .ensures .1 .few, (subst (λ (x : AttrIr). Bounded (c .before .before .before .before .before .before .before .before .before .before .before .before .before .args .kinds .now) (c .before .before .before .before .before .before .before .before .trim .result .place .0) (c .before .before .before .before .before .before .before .before .trim .result .place .0 + c .before .before .before .before .before .before .before .before .trim .result .count) x) (c .before .before .ir6 .given .1) (c .before .before .before .before .attr-ir .ensures .1 .1)) .within))
 
--- src/lib.rt:87:27
 parse-attr-enum-known-ir-7 : (t : ℕ) → parse-attr-lts.Need-enum-known-ir-7 (
   trim-reads.Asked,
   trim-reads.Learnt,
@@ -826,7 +784,6 @@ parse-attr-enum-known-ir-7 : (t : ℕ) → parse-attr-lts.Need-enum-known-ir-7 (
 ) (parse-attr-at t) parse-attr.Post
 parse-attr-enum-known-ir-7 t c = c .match .keys7
 
--- src/lib.rt:89:34
 parse-attr-add-t49 : (t : ℕ) → parse-attr-lts.Need-add-t49 (
   trim-reads.Asked,
   trim-reads.Learnt,
@@ -849,7 +806,6 @@ parse-attr-add-t49 : (t : ℕ) → parse-attr-lts.Need-add-t49 (
 ) (parse-attr-at t) parse-attr.Post
 parse-attr-add-t49 t c = omega (arith, c .before .before .before .before .before .before .before .before .before .before .before .before .before .before .before .pre .1 .1 .0, c .before .before .before .before .before .before .before .before .before .before .before .before .before .before .before .pre .1 .1 .1, c .before .before .before .before .before .before .before .before .before .before .before .before .before .before .before .pre .1 .1 .2, c .before .before .before .before .before .before .before .before .before .before .before .before .before .before .before .pre .1 .0 .few, c .before .before .before .before .before .before .before .before .before .before .trim .ensures .1 .within, c .before .before .before .before .before .before .before .before .before .before .trim .ensures .1 .few, (subst (λ (x : AttrIr). Bounded (c .before .before .before .before .before .before .before .before .before .before .before .before .before .before .before .args .kinds .now) (c .before .before .before .before .before .before .before .before .before .before .trim .result .place .0) (c .before .before .before .before .before .before .before .before .before .before .trim .result .place .0 + c .before .before .before .before .before .before .before .before .before .before .trim .result .count) x) (c .before .before .before .before .ir7 .given .1) (c .before .before .before .before .before .before .attr-ir .ensures .1 .1)) .within)
 
--- src/lib.rt:90:13
 parse-attr-push-shorthand-requires : (t : ℕ) → parse-attr-lts.Need-push-shorthand-requires (
   trim-reads.Asked,
   trim-reads.Learnt,
@@ -872,7 +828,6 @@ parse-attr-push-shorthand-requires : (t : ℕ) → parse-attr-lts.Need-push-shor
 ) (parse-attr-at t) parse-attr.Post
 parse-attr-push-shorthand-requires t c κs = (c .before .before .before .before .before .before .before .before .before .before .before .before .before .before .before .before .pre .1 .0, ((omega arith, omega (arith, c .before .before .before .before .before .before .before .before .before .before .before .before .before .before .before .before .pre .1 .1 .0, c .before .before .before .before .before .before .before .before .before .before .before .before .before .before .before .before .pre .1 .1 .1, c .before .before .before .before .before .before .before .before .before .before .before .before .before .before .before .before .pre .1 .1 .2, c .before .before .before .before .before .before .before .before .before .before .before .before .before .before .before .before .pre .1 .0 .few, c .before .before .before .before .before .before .before .before .before .before .before .trim .ensures .1 .within, c .before .before .before .before .before .before .before .before .before .before .before .trim .ensures .1 .few, (subst (λ (x : AttrIr). Bounded (c .before .before .before .before .before .before .before .before .before .before .before .before .before .before .before .before .args .kinds .now) (c .before .before .before .before .before .before .before .before .before .before .before .trim .result .place .0) (c .before .before .before .before .before .before .before .before .before .before .before .trim .result .place .0 + c .before .before .before .before .before .before .before .before .before .before .before .trim .result .count) x) (c .before .before .before .before .before .ir7 .given .1) (c .before .before .before .before .before .before .before .attr-ir .ensures .1 .1)) .within), omega (arith, c .before .before .before .before .before .before .before .before .before .before .before .before .before .before .before .before .pre .1 .1 .0, c .before .before .before .before .before .before .before .before .before .before .before .before .before .before .before .before .pre .1 .1 .1, c .before .before .before .before .before .before .before .before .before .before .before .before .before .before .before .before .pre .1 .1 .2, c .before .before .before .before .before .before .before .before .before .before .before .before .before .before .before .before .pre .1 .0 .few, c .before .before .before .before .before .before .before .before .before .before .before .trim .ensures .1 .within, c .before .before .before .before .before .before .before .before .before .before .before .trim .ensures .1 .few, (subst (λ (x : AttrIr). Bounded (c .before .before .before .before .before .before .before .before .before .before .before .before .before .before .before .before .args .kinds .now) (c .before .before .before .before .before .before .before .before .before .before .before .trim .result .place .0) (c .before .before .before .before .before .before .before .before .before .before .before .trim .result .place .0 + c .before .before .before .before .before .before .before .before .before .before .before .trim .result .count) x) (c .before .before .before .before .before .ir7 .given .1) (c .before .before .before .before .before .before .before .attr-ir .ensures .1 .1)) .few)), whole-stops (c .before .before .before .before .before .before .before .before .before .before .before .before .before .before .before .before .args .kinds .now) (c .before .before .before .before .before .before .before .before .before .before .before .before .before .before .before .before .args .text .now) (c .before .before .before .before .before .before .before .before .before .before .before .before .before .before .before .before .args .pairs .now) (c .before .before .before .before .before .before .before .before .before .before .before .before .before .before .before .before .args .from .0) (c .before .before .before .before .before .before .before .before .before .before .before .before .before .before .before .before .args .to .0) (c .before .before .before .before .before .before .before .before .before .before .before .before .before .before .before .before .args .block) (c .before .before .before .before .before .before .before .before .before .before .before .before .before .before .before .before .args .has) (c .before .before .before .before .before .before .before .before .before .before .before .trim .result) (c .before .before .before .before .before .before .before .before .before .before .before .trim .ensures .0) (c .before .before .before .before .before .before .before .before .before .before .before .trim .ensures .1) (c .before .before .before .before .before .before .before .before .before .before .if1 .left) (c .before .before .before .before .before .before .before .attr-ir .result) (c .before .before .before .before .before .before .before .attr-ir .ensures .1 .0) (c .before .before .before .before .before .ir7 .given .0 .0) (c .before .before .before .before .before .ir7 .given .1) ((subst (λ (x : AttrIr). Bounded (c .before .before .before .before .before .before .before .before .before .before .before .before .before .before .before .before .args .kinds .now) (c .before .before .before .before .before .before .before .before .before .before .before .trim .result .place .0) (c .before .before .before .before .before .before .before .before .before .before .before .trim .result .place .0 + c .before .before .before .before .before .before .before .before .before .before .before .trim .result .count) x) (c .before .before .before .before .before .ir7 .given .1) (c .before .before .before .before .before .before .before .attr-ir .ensures .1 .1)) .ends)))
 
--- src/lib.rt:50:1
 parse-attr-same-length-3 : (t : ℕ) → parse-attr-lts.Need-same-length-3 (
   trim-reads.Asked,
   trim-reads.Learnt,
@@ -895,7 +850,6 @@ parse-attr-same-length-3 : (t : ℕ) → parse-attr-lts.Need-same-length-3 (
 ) (parse-attr-at t) parse-attr.Post
 parse-attr-same-length-3 t c = c .before .before .put-one2 .kept .0
 
--- src/lib.rt:50:1
 parse-attr-returns-3 : (t : ℕ) → parse-attr-lts.Need-returns-3 (
   trim-reads.Asked,
   trim-reads.Learnt,
@@ -918,7 +872,6 @@ parse-attr-returns-3 : (t : ℕ) → parse-attr-lts.Need-returns-3 (
 ) (parse-attr-at t) parse-attr.Post
 parse-attr-returns-3 t c = all-told _ _ _ _ _ _ _ (c .before .before .put-one2 .ensures) (whole-positional (c .before .before .before .before .before .before .before .before .before .before .before .before .before .before .before .before .before .before .args .kinds .now) (c .before .before .before .before .before .before .before .before .before .before .before .before .before .before .before .before .before .before .args .text .now) (c .before .before .before .before .before .before .before .before .before .before .before .before .before .before .before .before .before .before .args .pairs .now) (c .before .before .before .before .before .before .before .before .before .before .before .before .before .before .before .before .before .before .args .from .0) (c .before .before .before .before .before .before .before .before .before .before .before .before .before .before .before .before .before .before .args .to .0) (c .before .before .before .before .before .before .before .before .before .before .before .before .before .before .before .before .before .before .args .block) (c .before .before .before .before .before .before .before .before .before .before .before .before .before .before .before .before .before .before .args .has) (c .before .before .before .before .before .before .before .before .before .before .before .before .before .trim .result) (c .before .before .before .before .before .before .before .before .before .before .before .before .before .trim .ensures .0) (c .before .before .before .before .before .before .before .before .before .before .before .before .before .trim .ensures .1) (c .before .before .before .before .before .before .before .before .before .before .before .before .if1 .left) (c .before .before .before .before .before .before .before .before .before .attr-ir .result) (c .before .before .before .before .before .before .before .before .before .attr-ir .ensures .1 .0) (c .before .before .before .before .before .before .before .before .before .attr-ir .ensures .0) (c .before .before .before .before .before .before .before .ir .given .0 .0) (c .before .before .before .before .before .before .before .ir .given .0 .1 .0) (c .before .before .before .before .before .before .before .ir .given .1) (c .before .before .before .before .before .if2 .left) _ (c .before .before .before .one-run2 .ensures)) (omega (arith, c .before .before .put-one2 .ensures .wrote .count))
 
--- src/lib.rt:50:1
 parse-attr-same-length-4 : (t : ℕ) → parse-attr-lts.Need-same-length-4 (
   trim-reads.Asked,
   trim-reads.Learnt,
@@ -941,7 +894,6 @@ parse-attr-same-length-4 : (t : ℕ) → parse-attr-lts.Need-same-length-4 (
 ) (parse-attr-at t) parse-attr.Post
 parse-attr-same-length-4 t c = c .before .before .put-named .kept .0
 
--- src/lib.rt:50:1
 parse-attr-returns-4 : (t : ℕ) → parse-attr-lts.Need-returns-4 (
   trim-reads.Asked,
   trim-reads.Learnt,
@@ -964,7 +916,6 @@ parse-attr-returns-4 : (t : ℕ) → parse-attr-lts.Need-returns-4 (
 ) (parse-attr-at t) parse-attr.Post
 parse-attr-returns-4 t c = all-told _ _ _ _ _ _ _ (c .before .before .put-named .ensures) (whole-named (c .before .before .before .before .before .before .before .before .before .before .before .before .before .before .before .before .args .kinds .now) (c .before .before .before .before .before .before .before .before .before .before .before .before .before .before .before .before .args .text .now) (c .before .before .before .before .before .before .before .before .before .before .before .before .before .before .before .before .args .pairs .now) (c .before .before .before .before .before .before .before .before .before .before .before .before .before .before .before .before .args .from .0) (c .before .before .before .before .before .before .before .before .before .before .before .before .before .before .before .before .args .to .0) (c .before .before .before .before .before .before .before .before .before .before .before .before .before .before .before .before .args .block) (c .before .before .before .before .before .before .before .before .before .before .before .before .before .before .before .before .args .has) (c .before .before .before .before .before .before .before .before .before .before .before .trim .result) (c .before .before .before .before .before .before .before .before .before .before .before .trim .ensures .0) (c .before .before .before .before .before .before .before .before .before .before .before .trim .ensures .1) (c .before .before .before .before .before .before .before .before .before .before .if1 .left) (c .before .before .before .before .before .before .before .attr-ir .result) (c .before .before .before .before .before .before .before .attr-ir .ensures .1 .0) (c .before .before .before .before .before .ir2 .given .0 .0) (c .before .before .before .before .before .ir2 .given .0 .1 .0) (c .before .before .before .before .before .ir2 .given .1)) (omega (arith, c .before .before .put-named .ensures .wrote .count))
 
--- src/lib.rt:50:1
 parse-attr-same-length-5 : (t : ℕ) → parse-attr-lts.Need-same-length-5 (
   trim-reads.Asked,
   trim-reads.Learnt,
@@ -987,7 +938,6 @@ parse-attr-same-length-5 : (t : ℕ) → parse-attr-lts.Need-same-length-5 (
 ) (parse-attr-at t) parse-attr.Post
 parse-attr-same-length-5 t c = c .before .before .put-named2 .kept .0
 
--- src/lib.rt:50:1
 parse-attr-returns-5 : (t : ℕ) → parse-attr-lts.Need-returns-5 (
   trim-reads.Asked,
   trim-reads.Learnt,
@@ -1010,7 +960,6 @@ parse-attr-returns-5 : (t : ℕ) → parse-attr-lts.Need-returns-5 (
 ) (parse-attr-at t) parse-attr.Post
 parse-attr-returns-5 t c = all-told _ _ _ _ _ _ _ (c .before .before .put-named2 .ensures) (whole-plain (c .before .before .before .before .before .before .before .before .before .before .before .before .before .before .before .before .args .kinds .now) (c .before .before .before .before .before .before .before .before .before .before .before .before .before .before .before .before .args .text .now) (c .before .before .before .before .before .before .before .before .before .before .before .before .before .before .before .before .args .pairs .now) (c .before .before .before .before .before .before .before .before .before .before .before .before .before .before .before .before .args .from .0) (c .before .before .before .before .before .before .before .before .before .before .before .before .before .before .before .before .args .to .0) (c .before .before .before .before .before .before .before .before .before .before .before .before .before .before .before .before .args .block) (c .before .before .before .before .before .before .before .before .before .before .before .before .before .before .before .before .args .has) (c .before .before .before .before .before .before .before .before .before .before .before .trim .result) (c .before .before .before .before .before .before .before .before .before .before .before .trim .ensures .0) (c .before .before .before .before .before .before .before .before .before .before .before .trim .ensures .1) (c .before .before .before .before .before .before .before .before .before .before .if1 .left) (c .before .before .before .before .before .before .before .attr-ir .result) (c .before .before .before .before .before .before .before .attr-ir .ensures .1 .0) (c .before .before .before .before .before .ir3 .given .0 .0) (c .before .before .before .before .before .ir3 .given .0 .1 .0) (c .before .before .before .before .before .ir3 .given .1)) (omega (arith, c .before .before .put-named2 .ensures .wrote .count))
 
--- src/lib.rt:50:1
 parse-attr-same-length-6 : (t : ℕ) → parse-attr-lts.Need-same-length-6 (
   trim-reads.Asked,
   trim-reads.Learnt,
@@ -1033,7 +982,6 @@ parse-attr-same-length-6 : (t : ℕ) → parse-attr-lts.Need-same-length-6 (
 ) (parse-attr-at t) parse-attr.Post
 parse-attr-same-length-6 t c = c .before .before .put-groups .kept .1 .1 .1 .1 .1 .0
 
--- src/lib.rt:50:1
 parse-attr-returns-6 : (t : ℕ) → parse-attr-lts.Need-returns-6 (
   trim-reads.Asked,
   trim-reads.Learnt,
@@ -1056,7 +1004,6 @@ parse-attr-returns-6 : (t : ℕ) → parse-attr-lts.Need-returns-6 (
 ) (parse-attr-at t) parse-attr.Post
 parse-attr-returns-6 t c = all-told _ _ _ _ _ _ _ (record { wrote = c .before .before .put-groups .ensures .0 _ _; id = c .before .before .put-groups .ensures .1 .0 }) (whole-options (c .before .before .before .before .before .before .before .before .before .before .before .before .before .before .before .before .args .kinds .now) (c .before .before .before .before .before .before .before .before .before .before .before .before .before .before .before .before .args .text .now) (c .before .before .before .before .before .before .before .before .before .before .before .before .before .before .before .before .args .pairs .now) (c .before .before .before .before .before .before .before .before .before .before .before .before .before .before .before .before .args .from .0) (c .before .before .before .before .before .before .before .before .before .before .before .before .before .before .before .before .args .to .0) (c .before .before .before .before .before .before .before .before .before .before .before .before .before .before .before .before .args .block) (c .before .before .before .before .before .before .before .before .before .before .before .before .before .before .before .before .args .has) (c .before .before .before .before .before .before .before .before .before .before .before .trim .result) (c .before .before .before .before .before .before .before .before .before .before .before .trim .ensures .0) (c .before .before .before .before .before .before .before .before .before .before .before .trim .ensures .1) (c .before .before .before .before .before .before .before .before .before .before .if1 .left) (c .before .before .before .before .before .before .before .attr-ir .result) (c .before .before .before .before .before .before .before .attr-ir .ensures .1 .0) (c .before .before .before .before .before .ir4 .given .0 .0) (c .before .before .before .before .before .ir4 .given .1)) (omega (arith, c .before .before .put-groups .ensures .1 .1, c .before .before .before .before .before .before .before .before .before .before .before .before .before .before .before .before .pre .1 .1 .0, c .before .before .before .before .before .before .before .before .before .before .before .before .before .before .before .before .pre .1 .1 .1, c .before .before .before .before .before .before .before .before .before .before .before .before .before .before .before .before .pre .1 .1 .2, c .before .before .before .before .before .before .before .before .before .before .before .before .before .before .before .before .pre .1 .0 .few, c .before .before .before .before .before .before .before .before .before .before .before .trim .ensures .1 .within, c .before .before .before .before .before .before .before .before .before .before .before .trim .ensures .1 .few, (subst (λ (x : AttrIr). Bounded (c .before .before .before .before .before .before .before .before .before .before .before .before .before .before .before .before .args .kinds .now) (c .before .before .before .before .before .before .before .before .before .before .before .trim .result .place .0) (c .before .before .before .before .before .before .before .before .before .before .before .trim .result .place .0 + c .before .before .before .before .before .before .before .before .before .before .before .trim .result .count) x) (c .before .before .before .before .before .ir4 .given .1) (c .before .before .before .before .before .before .before .attr-ir .ensures .1 .1)) .few))
 
--- src/lib.rt:50:1
 parse-attr-same-length-7 : (t : ℕ) → parse-attr-lts.Need-same-length-7 (
   trim-reads.Asked,
   trim-reads.Learnt,
@@ -1079,7 +1026,6 @@ parse-attr-same-length-7 : (t : ℕ) → parse-attr-lts.Need-same-length-7 (
 ) (parse-attr-at t) parse-attr.Post
 parse-attr-same-length-7 t c = c .before .before .put-groups2 .kept .1 .1 .1 .1 .1 .0
 
--- src/lib.rt:50:1
 parse-attr-returns-7 : (t : ℕ) → parse-attr-lts.Need-returns-7 (
   trim-reads.Asked,
   trim-reads.Learnt,
@@ -1102,7 +1048,6 @@ parse-attr-returns-7 : (t : ℕ) → parse-attr-lts.Need-returns-7 (
 ) (parse-attr-at t) parse-attr.Post
 parse-attr-returns-7 t c = all-told _ _ _ _ _ _ _ (record { wrote = c .before .before .put-groups2 .ensures .0 _ _; id = c .before .before .put-groups2 .ensures .1 .0 }) (whole-roles (c .before .before .before .before .before .before .before .before .before .before .before .before .before .before .before .before .args .kinds .now) (c .before .before .before .before .before .before .before .before .before .before .before .before .before .before .before .before .args .text .now) (c .before .before .before .before .before .before .before .before .before .before .before .before .before .before .before .before .args .pairs .now) (c .before .before .before .before .before .before .before .before .before .before .before .before .before .before .before .before .args .from .0) (c .before .before .before .before .before .before .before .before .before .before .before .before .before .before .before .before .args .to .0) (c .before .before .before .before .before .before .before .before .before .before .before .before .before .before .before .before .args .block) (c .before .before .before .before .before .before .before .before .before .before .before .before .before .before .before .before .args .has) (c .before .before .before .before .before .before .before .before .before .before .before .trim .result) (c .before .before .before .before .before .before .before .before .before .before .before .trim .ensures .0) (c .before .before .before .before .before .before .before .before .before .before .before .trim .ensures .1) (c .before .before .before .before .before .before .before .before .before .before .if1 .left) (c .before .before .before .before .before .before .before .attr-ir .result) (c .before .before .before .before .before .before .before .attr-ir .ensures .1 .0) (c .before .before .before .before .before .ir5 .given .0 .0) (c .before .before .before .before .before .ir5 .given .1)) (omega (arith, c .before .before .put-groups2 .ensures .1 .1, c .before .before .before .before .before .before .before .before .before .before .before .before .before .before .before .before .pre .1 .1 .0, c .before .before .before .before .before .before .before .before .before .before .before .before .before .before .before .before .pre .1 .1 .1, c .before .before .before .before .before .before .before .before .before .before .before .before .before .before .before .before .pre .1 .1 .2, c .before .before .before .before .before .before .before .before .before .before .before .before .before .before .before .before .pre .1 .0 .few, c .before .before .before .before .before .before .before .before .before .before .before .trim .ensures .1 .within, c .before .before .before .before .before .before .before .before .before .before .before .trim .ensures .1 .few, (subst (λ (x : AttrIr). Bounded (c .before .before .before .before .before .before .before .before .before .before .before .before .before .before .before .before .args .kinds .now) (c .before .before .before .before .before .before .before .before .before .before .before .trim .result .place .0) (c .before .before .before .before .before .before .before .before .before .before .before .trim .result .place .0 + c .before .before .before .before .before .before .before .before .before .before .before .trim .result .count) x) (c .before .before .before .before .before .ir5 .given .1) (c .before .before .before .before .before .before .before .attr-ir .ensures .1 .1)) .few))
 
--- src/lib.rt:50:1
 parse-attr-same-length-8 : (t : ℕ) → parse-attr-lts.Need-same-length-8 (
   trim-reads.Asked,
   trim-reads.Learnt,
@@ -1125,7 +1070,6 @@ parse-attr-same-length-8 : (t : ℕ) → parse-attr-lts.Need-same-length-8 (
 ) (parse-attr-at t) parse-attr.Post
 parse-attr-same-length-8 t c = c .before .before .put-id .kept .0
 
--- src/lib.rt:50:1
 parse-attr-returns-8 : (t : ℕ) → parse-attr-lts.Need-returns-8 (
   trim-reads.Asked,
   trim-reads.Learnt,
@@ -1148,7 +1092,6 @@ parse-attr-returns-8 : (t : ℕ) → parse-attr-lts.Need-returns-8 (
 ) (parse-attr-at t) parse-attr.Post
 parse-attr-returns-8 t c = let w = c .before .before .put-id .ensures _ (id-run (c .before .before .before .before .before .before .before .before .before .before .before .before .before .before .before .before .args .kinds .now) (c .before .before .before .before .before .before .before .before .before .before .before .before .before .before .before .before .args .text .now) (c .before .before .before .before .before .before .before .before .before .before .before .before .before .before .before .before .args .pairs .now) (c .before .before .before .before .before .before .before .before .before .before .before .before .before .before .before .before .args .from .0) (c .before .before .before .before .before .before .before .before .before .before .before .before .before .before .before .before .args .to .0) (c .before .before .before .before .before .before .before .before .before .before .before .before .before .before .before .before .args .block) (c .before .before .before .before .before .before .before .before .before .before .before .before .before .before .before .before .args .has) (c .before .before .before .before .before .before .before .before .before .before .before .trim .result) (c .before .before .before .before .before .before .before .before .before .before .before .trim .ensures .0) (c .before .before .before .before .before .before .before .before .before .before .before .trim .ensures .1) (c .before .before .before .before .before .before .before .before .before .before .if1 .left) (c .before .before .before .before .before .before .before .attr-ir .result) (c .before .before .before .before .before .before .before .attr-ir .ensures .1 .0) (c .before .before .before .before .before .before .before .attr-ir .ensures .0) (c .before .before .before .before .before .ir6 .given .0 .0) (c .before .before .before .before .before .ir6 .given .1)) in all-told _ _ _ _ _ _ _ w (whole-id (c .before .before .before .before .before .before .before .before .before .before .before .before .before .before .before .before .args .kinds .now) (c .before .before .before .before .before .before .before .before .before .before .before .before .before .before .before .before .args .text .now) (c .before .before .before .before .before .before .before .before .before .before .before .before .before .before .before .before .args .pairs .now) (c .before .before .before .before .before .before .before .before .before .before .before .before .before .before .before .before .args .from .0) (c .before .before .before .before .before .before .before .before .before .before .before .before .before .before .before .before .args .to .0) (c .before .before .before .before .before .before .before .before .before .before .before .before .before .before .before .before .args .block) (c .before .before .before .before .before .before .before .before .before .before .before .before .before .before .before .before .args .has) (c .before .before .before .before .before .before .before .before .before .before .before .trim .result) (c .before .before .before .before .before .before .before .before .before .before .before .trim .ensures .0) (c .before .before .before .before .before .before .before .before .before .before .before .trim .ensures .1) (c .before .before .before .before .before .before .before .before .before .before .if1 .left) (c .before .before .before .before .before .before .before .attr-ir .result) (c .before .before .before .before .before .before .before .attr-ir .ensures .1 .0) (c .before .before .before .before .before .ir6 .given .0 .0) (c .before .before .before .before .before .ir6 .given .1)) (id-few _ _ _ _ _ _ _ w (omega arith))
 
--- src/lib.rt:50:1
 parse-attr-same-length-9 : (t : ℕ) → parse-attr-lts.Need-same-length-9 (
   trim-reads.Asked,
   trim-reads.Learnt,
@@ -1171,7 +1114,6 @@ parse-attr-same-length-9 : (t : ℕ) → parse-attr-lts.Need-same-length-9 (
 ) (parse-attr-at t) parse-attr.Post
 parse-attr-same-length-9 t c = c .before .before .push-shorthand .kept .1 .1 .1 .1 .1 .1 .0
 
--- src/lib.rt:50:1
 parse-attr-returns-9 : (t : ℕ) → parse-attr-lts.Need-returns-9 (
   trim-reads.Asked,
   trim-reads.Learnt,

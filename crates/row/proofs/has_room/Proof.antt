@@ -1,21 +1,13 @@
-use borrow.Author.Needs.{needs}
-use Prim.Native.Nat.{ℕ, zero, suc, _+_, _*_, _-_, _/_, _≤_, _<_}
+-- `has_room` compares with a division: n / 5 is at least t exactly where n is at least 5 × t. Assumes nothing.
+use Prim.Native.Nat.{_*_, _-_, _/_}
 use native.Mathlib.Omega.{arith}
-use native.Mathlib.Numerals.{add-one}
-use mathlib.Core.Bool.{Bool, true, false, cond, not, _&&_, _||_}
-use mathlib.Core.Path.{_≡_, refl, sym, ap, subst, _∙_}
-use mathlib.Core.Logic.{⊎-elim}
-use mathlib.Core.List.{List, [], _∷_, _++_}
-use lib.Dec.{eqb, leb}
-use lib.ListN.{length, getD, take, drop, set, length-set}
+use lib.Dec.{leb}
+use lib.ListN.{length}
 use borrow.Author.Tests.{le-leb, leb-true}
 use Rattle.row.proofs.Places.{bool-eq}
 use Rattle.row.proofs.has_room.Statement.{statement}
 use Rattle.row.proofs.has_room.Tie as tie
-use Rattle.row.proofs.has_room.Reads as reads
-use Rattle.row.proofs.has_room.Lts as lts
 
--- src/lib.rt:22:1
 returns : tie.Need-returns
 returns c =
     let t = c .args .tokens in

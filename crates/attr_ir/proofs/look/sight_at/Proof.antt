@@ -1,14 +1,9 @@
+-- `sight_at` is the definition by the token's kind, and by the next kept token where that is asked for. Assumes nothing.
 use borrow.Author.Needs.{needs}
-use Prim.Native.Nat.{ℕ, zero, suc, _+_, _*_, _-_, _≤_, _<_}
+use Prim.Native.Nat.{_-_}
 use native.Mathlib.Omega.{arith}
-use native.Mathlib.Numerals.{add-one}
-use mathlib.Core.Bool.{Bool, true, false, cond, not, _&&_, _||_}
-use mathlib.Core.Path.{_≡_, refl, sym, ap, subst, _∙_}
-use mathlib.Core.Logic.{⊎-elim}
-use mathlib.Core.List.{List, [], _∷_, _++_}
-use lib.Dec.{eqb}
-use lib.ListN.{length, getD, take, drop, set, length-set}
-use borrow.Author.Tests.{eq-eqb, ne-eqb, lt-ltb, le-ltb, le-leb, lt-leb}
+use mathlib.Core.Path.{sym, _∙_}
+use borrow.Author.Tests.{eq-eqb, ne-eqb}
 use Rattle.attr_ir.proofs.Sights.{by-symbol, space-none, space-equals, space-other, equals-first, equals-one, equals-more, sight-quote, sight-quote′, sight-other}
 use Rattle.token.specs.NamesLaws.{kind-of, kind-not, one-is}
 use Rattle.token.specs.Kept.{kept-none, kept-first}
@@ -16,75 +11,52 @@ use Rattle.token.specs.Run.{kept}
 use Rattle.token.specs.Line.{lineOf, tokenAt}
 use Rattle.attr_ir.proofs.look.sight_at.Statement.{statement}
 use Rattle.attr_ir.proofs.look.sight_at.Tie as tie
-use Rattle.attr_ir.proofs.look.sight_at.Reads as reads
-use Rattle.attr_ir.proofs.look.sight_at.Lts as lts
-use Rattle.attr_ir.proofs.look.both.Reads as both-reads
-use Rattle.attr_ir.proofs.look.equals_sign.Reads as equals-sign-reads
-use Rattle.attr_ir.proofs.look.one_symbol.Reads as one-symbol-reads
-use Rattle.attr_ir.proofs.look.symbol_sight.Reads as symbol-sight-reads
-use Rattle.token.proofs.line.length_of.Reads as length-of-reads
 
--- src/look.rt:102:8
 one-symbol-requires : tie.Need-one-symbol-requires
 one-symbol-requires c κs = search needs
 
--- src/look.rt:103:46
 both-requires : tie.Need-both-requires
 both-requires c κs = search needs
 
--- src/look.rt:103:9
 symbol-sight-requires : tie.Need-symbol-sight-requires
 symbol-sight-requires c κs = search needs
 
--- src/look.rt:103:9
 returns : tie.Need-returns
 returns c = by-symbol _ _ _ _ _ (c .symbol-sight .result) (c .before .both .result) (c .before .before .before .one-symbol .result) (c .symbol-sight .ensures _ _) (c .before .both .ensures) (c .before .before .before .one-symbol .ensures) (c .before .before .if1 .taken)
 
--- src/look.rt:106:11
 shared-slice-read-match : tie.Need-shared-slice-read-match
 shared-slice-read-match c = search needs
 
--- src/look.rt:111:17
 returns-2 : tie.Need-returns-2
 returns-2 c = space-none _ _ _ _ _ (kind-of (lineOf (c .before .before .before .before .before .before .before .before .before .before .args .kinds .now) (c .before .before .before .before .before .before .before .before .before .before .args .text .now) (c .before .before .before .before .before .before .before .before .before .before .args .pairs .now)) (c .before .before .before .before .before .before .before .before .before .before .args .at .0) _ (c .before .before .before .match .keys3)) (kept-none (lineOf (c .before .before .before .before .before .before .before .before .before .before .args .kinds .now) (c .before .before .before .before .before .before .before .before .before .before .args .text .now) (c .before .before .before .before .before .before .before .before .before .before .args .pairs .now)) (c .before .before .before .before .before .before .before .before .before .before .args .next .0) (c .before .before .before .before .before .before .before .before .before .before .args .to .0) (c .if2 .taken))
 
--- src/look.rt:113:16
 equals-sign-requires : tie.Need-equals-sign-requires
 equals-sign-requires c κs = (c .before .before .before .before .before .before .before .before .before .before .pre .0, omega arith)
 
--- src/look.rt:114:17
 returns-3 : tie.Need-returns-3
 returns-3 c = space-equals _ _ _ _ _ _ _ (kind-of (lineOf (c .before .before .before .before .before .before .before .before .before .before .before .before .args .kinds .now) (c .before .before .before .before .before .before .before .before .before .before .before .before .args .text .now) (c .before .before .before .before .before .before .before .before .before .before .before .before .args .pairs .now)) (c .before .before .before .before .before .before .before .before .before .before .before .before .args .at .0) _ (c .before .before .before .before .before .match .keys3)) (kept-first (lineOf (c .before .before .before .before .before .before .before .before .before .before .before .before .args .kinds .now) (c .before .before .before .before .before .before .before .before .before .before .before .before .args .text .now) (c .before .before .before .before .before .before .before .before .before .before .before .before .args .pairs .now)) (c .before .before .before .before .before .before .before .before .before .before .before .before .args .next .0) (c .before .before .before .before .before .before .before .before .before .before .before .before .args .to .0) (c .before .before .if2 .left) (c .before .before .before .before .before .before .before .before .before .before .before .before .pre .1 .1 .first (c .before .before .if2 .left))) (c .before .equals-sign .result) (c .before .equals-sign .ensures) (c .if3 .taken)
 
--- src/look.rt:120:17
 returns-4 : tie.Need-returns-4
 returns-4 c = equals-first _ _ _ _ _ (kind-of (lineOf (c .before .before .before .before .before .before .before .before .args .kinds .now) (c .before .before .before .before .before .before .before .before .args .text .now) (c .before .before .before .before .before .before .before .before .args .pairs .now)) (c .before .before .before .before .before .before .before .before .args .at .0) _ (c .before .match .keys4)) (c .if4 .taken)
 
--- src/look.rt:122:16
 length-of-requires : tie.Need-length-of-requires
 length-of-requires c κs = omega (arith, c .before .before .before .before .before .before .before .before .pre .0 .paired)
 
--- src/look.rt:123:17
 returns-5 : tie.Need-returns-5
 returns-5 c = equals-one _ _ _ _ _ (kind-of (lineOf (c .before .before .before .before .before .before .before .before .before .before .args .kinds .now) (c .before .before .before .before .before .before .before .before .before .before .args .text .now) (c .before .before .before .before .before .before .before .before .before .before .args .pairs .now)) (c .before .before .before .before .before .before .before .before .before .before .args .at .0) _ (c .before .before .before .match .keys4)) (c .before .before .if4 .left) (one-is _ _ _ (c .before .before .before .before .before .before .before .before .before .before .pre .0) (c .before .before .before .before .before .before .before .before .before .before .args .at .0) (omega arith) ∙ eq-eqb _ 1 (sym (c .before .length-of .ensures) ∙ c .if5 .taken))
 
--- src/look.rt:86:1
 returns-6 : tie.Need-returns-6
 returns-6 c = sym (sight-quote _ _ _ _ _ (kind-of (lineOf (c .before .before .before .before .before .before .before .args .kinds .now) (c .before .before .before .before .before .before .before .args .text .now) (c .before .before .before .before .before .before .before .args .pairs .now)) (c .before .before .before .before .before .before .before .args .at .0) _ (c .match .keys1)))
 
--- src/look.rt:86:1
 returns-7 : tie.Need-returns-7
 returns-7 c = sym (sight-quote′ _ _ _ _ _ (kind-of (lineOf (c .before .before .before .before .before .before .before .args .kinds .now) (c .before .before .before .before .before .before .before .args .text .now) (c .before .before .before .before .before .before .before .args .pairs .now)) (c .before .before .before .before .before .before .before .args .at .0) _ (c .match .keys2)))
 
--- src/look.rt:86:1
 returns-8 : tie.Need-returns-8
 returns-8 c = space-other _ _ _ _ _ _ _ (kind-of (lineOf (c .before .before .before .before .before .before .before .before .before .before .before .before .args .kinds .now) (c .before .before .before .before .before .before .before .before .before .before .before .before .args .text .now) (c .before .before .before .before .before .before .before .before .before .before .before .before .args .pairs .now)) (c .before .before .before .before .before .before .before .before .before .before .before .before .args .at .0) _ (c .before .before .before .before .before .match .keys3)) (kept-first (lineOf (c .before .before .before .before .before .before .before .before .before .before .before .before .args .kinds .now) (c .before .before .before .before .before .before .before .before .before .before .before .before .args .text .now) (c .before .before .before .before .before .before .before .before .before .before .before .before .args .pairs .now)) (c .before .before .before .before .before .before .before .before .before .before .before .before .args .next .0) (c .before .before .before .before .before .before .before .before .before .before .before .before .args .to .0) (c .before .before .if2 .left) (c .before .before .before .before .before .before .before .before .before .before .before .before .pre .1 .1 .first (c .before .before .if2 .left))) (c .before .equals-sign .result) (c .before .equals-sign .ensures) (c .if3 .left)
 
--- src/look.rt:86:1
 returns-9 : tie.Need-returns-9
 returns-9 c = equals-more _ _ _ _ _ (kind-of (lineOf (c .before .before .before .before .before .before .before .before .before .before .args .kinds .now) (c .before .before .before .before .before .before .before .before .before .before .args .text .now) (c .before .before .before .before .before .before .before .before .before .before .args .pairs .now)) (c .before .before .before .before .before .before .before .before .before .before .args .at .0) _ (c .before .before .before .match .keys4)) (c .before .before .if4 .left) (one-is _ _ _ (c .before .before .before .before .before .before .before .before .before .before .pre .0) (c .before .before .before .before .before .before .before .before .before .before .args .at .0) (omega arith) ∙ ne-eqb _ 1 (λ e. c .if5 .left (c .before .length-of .ensures ∙ e)))
 
--- src/look.rt:86:1
 returns-10 : tie.Need-returns-10
 returns-10 c = sym (sight-other _ _ _ (tokenAt (lineOf (c .before .before .before .before .before .before .before .args .kinds .now) (c .before .before .before .before .before .before .before .args .text .now) (c .before .before .before .before .before .before .before .args .pairs .now)) (c .before .before .before .before .before .before .before .args .at .0)) (kept (lineOf (c .before .before .before .before .before .before .before .args .kinds .now) (c .before .before .before .before .before .before .before .args .text .now) (c .before .before .before .before .before .before .before .args .pairs .now)) (c .before .before .before .before .before .before .before .args .next .0) (c .before .before .before .before .before .before .before .args .to .0)) (sym (c .before .before .before .one-symbol .ensures) ∙ c .before .before .if1 .left) (kind-not (lineOf (c .before .before .before .before .before .before .before .args .kinds .now) (c .before .before .before .before .before .before .before .args .text .now) (c .before .before .before .before .before .before .before .args .pairs .now)) (c .before .before .before .before .before .before .before .args .at .0) _ (c .match .rest .0 .0 .0 .1)) (kind-not (lineOf (c .before .before .before .before .before .before .before .args .kinds .now) (c .before .before .before .before .before .before .before .args .text .now) (c .before .before .before .before .before .before .before .args .pairs .now)) (c .before .before .before .before .before .before .before .args .at .0) _ (c .match .rest .0 .0 .1)) (kind-not (lineOf (c .before .before .before .before .before .before .before .args .kinds .now) (c .before .before .before .before .before .before .before .args .text .now) (c .before .before .before .before .before .before .before .args .pairs .now)) (c .before .before .before .before .before .before .before .args .at .0) _ (c .match .rest .0 .1)) (kind-not (lineOf (c .before .before .before .before .before .before .before .args .kinds .now) (c .before .before .before .before .before .before .before .args .text .now) (c .before .before .before .before .before .before .before .args .pairs .now)) (c .before .before .before .before .before .before .before .args .at .0) _ (c .match .rest .1)))
 

@@ -1,32 +1,19 @@
-use borrow.Author.Needs.{needs}
-use Prim.Native.Nat.{ℕ, zero, suc, _+_, _*_, _-_, _≤_, _<_}
-use native.Mathlib.Omega.{arith}
-use native.Mathlib.Numerals.{add-one}
-use mathlib.Core.Bool.{Bool, true, false, cond, not, _&&_, _||_}
-use mathlib.Core.Path.{_≡_, refl, sym, ap, subst, _∙_}
-use mathlib.Core.Logic.{⊎-elim}
-use mathlib.Core.List.{List, [], _∷_, _++_}
-use lib.Dec.{eqb}
-use lib.ListN.{length, getD, take, drop, set, length-set}
-use borrow.Author.Tests.{eq-eqb, ne-eqb, lt-ltb, le-ltb, le-leb, lt-leb}
+-- `symbol_kind` tells Dots, Hash and Percent from other kinds, one way through the match for each. Assumes nothing.
+use Prim.Native.Nat.{_-_}
+use mathlib.Core.Path.{sym}
+use borrow.Author.Tests.{ne-eqb}
 use Rattle.attr_ir.proofs.look.symbol_kind.Statement.{statement}
 use Rattle.attr_ir.proofs.look.symbol_kind.Tie as tie
-use Rattle.attr_ir.proofs.look.symbol_kind.Reads as reads
-use Rattle.attr_ir.proofs.look.symbol_kind.Lts as lts
 
--- src/look.rt:30:1
 returns : tie.Need-returns
 returns c = sym (rw (c .match .keys1))
 
--- src/look.rt:30:1
 returns-2 : tie.Need-returns-2
 returns-2 c = sym (rw (c .match .keys2))
 
--- src/look.rt:30:1
 returns-3 : tie.Need-returns-3
 returns-3 c = sym (rw (c .match .keys3))
 
--- src/look.rt:30:1
 returns-4 : tie.Need-returns-4
 returns-4 c = sym (rw (ne-eqb _ 20 (c .match .rest .0 .0 .1), ne-eqb _ 27 (c .match .rest .0 .1), ne-eqb _ 36 (c .match .rest .1)))
 

@@ -1,101 +1,71 @@
+-- `name_of` gives the first name that is the same, by the tests that failed before it. Assumes nothing.
 use borrow.Author.Needs.{needs}
-use Prim.Native.Nat.{ℕ, zero, suc, _+_, _*_, _-_, _≤_, _<_}
-use native.Mathlib.Omega.{arith}
-use native.Mathlib.Numerals.{add-one}
-use mathlib.Core.Bool.{Bool, true, false, cond, not, _&&_, _||_}
-use mathlib.Core.Path.{_≡_, refl, sym, ap, subst, _∙_}
-use mathlib.Core.Logic.{⊎-elim}
-use mathlib.Core.List.{List, [], _∷_, _++_}
-use lib.Dec.{eqb}
-use lib.ListN.{length, getD, take, drop, set, length-set}
-use borrow.Author.Tests.{eq-eqb, ne-eqb, lt-ltb, le-ltb, le-leb, lt-leb}
-use Rattle.token.specs.Names.{sameBytes}
-use Rattle.attr_ir.specs.Ir.{nameOf, options-name, opts-name, role-name, id-name, subs-name, cols-name}
+use Prim.Native.Nat.{_-_}
+use mathlib.Core.Path.{sym, _∙_}
+use Rattle.attr_ir.specs.Ir.{nameOf}
 use Rattle.attr_ir.proofs.naming.name_of.Statement.{statement}
 use Rattle.attr_ir.proofs.naming.name_of.Tie as tie
-use Rattle.attr_ir.proofs.naming.name_of.Reads as reads
-use Rattle.attr_ir.proofs.naming.name_of.Lts as lts
-use Rattle.token.proofs.names.name_is.Reads as name-is-reads
 
--- src/naming.rt:25:46
 slice-aggregate-name-is : tie.Need-slice-aggregate-name-is
 slice-aggregate-name-is c = search needs
 
--- src/naming.rt:25:8
 name-is-requires : tie.Need-name-is-requires
 name-is-requires c κs = search needs
 
--- src/naming.rt:26:9
 returns : tie.Need-returns
 unfolding nameOf
 returns c = rw (sym (c .before .name-is .ensures) ∙ c .if1 .taken)
 
--- src/naming.rt:28:46
 slice-aggregate-name-is-2 : tie.Need-slice-aggregate-name-is-2
 slice-aggregate-name-is-2 c = search needs
 
--- src/naming.rt:28:8
 name-is-requires-2 : tie.Need-name-is-requires-2
 name-is-requires-2 c κs = search needs
 
--- src/naming.rt:29:9
 returns-2 : tie.Need-returns-2
 unfolding nameOf
 returns-2 c = rw (sym (c .before .before .before .before .name-is .ensures) ∙ c .before .before .before .if1 .left, sym (c .before .name-is2 .ensures) ∙ c .if2 .taken)
 
--- src/naming.rt:31:46
 slice-aggregate-name-is-3 : tie.Need-slice-aggregate-name-is-3
 slice-aggregate-name-is-3 c = search needs
 
--- src/naming.rt:31:8
 name-is-requires-3 : tie.Need-name-is-requires-3
 name-is-requires-3 c κs = search needs
 
--- src/naming.rt:32:9
 returns-3 : tie.Need-returns-3
 unfolding nameOf
 returns-3 c = rw (sym (c .before .before .before .before .before .before .before .name-is .ensures) ∙ c .before .before .before .before .before .before .if1 .left, sym (c .before .before .before .before .name-is2 .ensures) ∙ c .before .before .before .if2 .left, sym (c .before .name-is3 .ensures) ∙ c .if3 .taken)
 
--- src/naming.rt:34:46
 slice-aggregate-name-is-4 : tie.Need-slice-aggregate-name-is-4
 slice-aggregate-name-is-4 c = search needs
 
--- src/naming.rt:34:8
 name-is-requires-4 : tie.Need-name-is-requires-4
 name-is-requires-4 c κs = search needs
 
--- src/naming.rt:35:9
 returns-4 : tie.Need-returns-4
 unfolding nameOf
 returns-4 c = rw (sym (c .before .before .before .before .before .before .before .before .before .before .name-is .ensures) ∙ c .before .before .before .before .before .before .before .before .before .if1 .left, sym (c .before .before .before .before .before .before .before .name-is2 .ensures) ∙ c .before .before .before .before .before .before .if2 .left, sym (c .before .before .before .before .name-is3 .ensures) ∙ c .before .before .before .if3 .left, sym (c .before .name-is4 .ensures) ∙ c .if4 .taken)
 
--- src/naming.rt:37:46
 slice-aggregate-name-is-5 : tie.Need-slice-aggregate-name-is-5
 slice-aggregate-name-is-5 c = search needs
 
--- src/naming.rt:37:8
 name-is-requires-5 : tie.Need-name-is-requires-5
 name-is-requires-5 c κs = search needs
 
--- src/naming.rt:38:9
 returns-5 : tie.Need-returns-5
 unfolding nameOf
 returns-5 c = rw (sym (c .before .before .before .before .before .before .before .before .before .before .before .before .before .name-is .ensures) ∙ c .before .before .before .before .before .before .before .before .before .before .before .before .if1 .left, sym (c .before .before .before .before .before .before .before .before .before .before .name-is2 .ensures) ∙ c .before .before .before .before .before .before .before .before .before .if2 .left, sym (c .before .before .before .before .before .before .before .name-is3 .ensures) ∙ c .before .before .before .before .before .before .if3 .left, sym (c .before .before .before .before .name-is4 .ensures) ∙ c .before .before .before .if4 .left, sym (c .before .name-is5 .ensures) ∙ c .if5 .taken)
 
--- src/naming.rt:40:46
 slice-aggregate-name-is-6 : tie.Need-slice-aggregate-name-is-6
 slice-aggregate-name-is-6 c = search needs
 
--- src/naming.rt:40:8
 name-is-requires-6 : tie.Need-name-is-requires-6
 name-is-requires-6 c κs = search needs
 
--- src/naming.rt:41:9
 returns-6 : tie.Need-returns-6
 unfolding nameOf
 returns-6 c = rw (sym (c .before .before .before .before .before .before .before .before .before .before .before .before .before .before .before .before .name-is .ensures) ∙ c .before .before .before .before .before .before .before .before .before .before .before .before .before .before .before .if1 .left, sym (c .before .before .before .before .before .before .before .before .before .before .before .before .before .name-is2 .ensures) ∙ c .before .before .before .before .before .before .before .before .before .before .before .before .if2 .left, sym (c .before .before .before .before .before .before .before .before .before .before .name-is3 .ensures) ∙ c .before .before .before .before .before .before .before .before .before .if3 .left, sym (c .before .before .before .before .before .before .before .name-is4 .ensures) ∙ c .before .before .before .before .before .before .if4 .left, sym (c .before .before .before .before .name-is5 .ensures) ∙ c .before .before .before .if5 .left, sym (c .before .name-is6 .ensures) ∙ c .if6 .taken)
 
--- src/naming.rt:20:1
 returns-7 : tie.Need-returns-7
 unfolding nameOf
 returns-7 c = rw (sym (c .before .before .before .before .before .before .before .before .before .before .before .before .before .before .before .before .name-is .ensures) ∙ c .before .before .before .before .before .before .before .before .before .before .before .before .before .before .before .if1 .left, sym (c .before .before .before .before .before .before .before .before .before .before .before .before .before .name-is2 .ensures) ∙ c .before .before .before .before .before .before .before .before .before .before .before .before .if2 .left, sym (c .before .before .before .before .before .before .before .before .before .before .name-is3 .ensures) ∙ c .before .before .before .before .before .before .before .before .before .if3 .left, sym (c .before .before .before .before .before .before .before .name-is4 .ensures) ∙ c .before .before .before .before .before .before .if4 .left, sym (c .before .before .before .before .name-is5 .ensures) ∙ c .before .before .before .if5 .left, sym (c .before .name-is6 .ensures) ∙ c .if6 .left)

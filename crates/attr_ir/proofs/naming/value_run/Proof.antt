@@ -1,57 +1,38 @@
+-- `value_run` drops one Whitespace, if the first kept token is one, and unquotes the rest. Assumes nothing.
 use borrow.Author.Needs.{needs}
-use Prim.Native.Nat.{ℕ, zero, suc, _+_, _*_, _-_, _≤_, _<_}
+use Prim.Native.Nat.{_-_}
 use native.Mathlib.Omega.{arith}
-use native.Mathlib.Numerals.{add-one}
-use mathlib.Core.Bool.{Bool, true, false, cond, not, _&&_, _||_}
-use mathlib.Core.Path.{_≡_, refl, sym, ap, subst, _∙_}
-use mathlib.Core.Logic.{⊎-elim}
-use mathlib.Core.List.{List, [], _∷_, _++_}
-use lib.Dec.{eqb}
-use lib.ListN.{length, getD, take, drop, set, length-set}
-use borrow.Author.Tests.{eq-eqb, ne-eqb, lt-ltb, le-ltb, le-leb, lt-leb}
+use mathlib.Core.Path.{ap, _∙_}
 use Rattle.attr_ir.proofs.Values.{part-as, value-empty, value-blank, value-word}
 use Rattle.attr_ir.specs.Ir.{value}
 use Rattle.token.specs.Run.{runOf, unquote}
 use Rattle.attr_ir.proofs.naming.value_run.Statement.{statement}
 use Rattle.attr_ir.proofs.naming.value_run.Tie as tie
-use Rattle.attr_ir.proofs.naming.value_run.Reads as reads
-use Rattle.attr_ir.proofs.naming.value_run.Lts as lts
-use Rattle.token.proofs.runs.first_kept.Reads as first-kept-reads
-use Rattle.token.proofs.runs.unquote.Reads as unquote-reads
 
--- src/naming.rt:52:9
 first-kept-requires : tie.Need-first-kept-requires
 first-kept-requires c κs = (omega arith, omega arith)
 
--- src/naming.rt:55:9
 unquote-requires : tie.Need-unquote-requires
 unquote-requires c κs = (omega (arith, c .before .before .first-kept .ensures .1 .part .mid), omega arith)
 
--- src/naming.rt:55:9
 returns : tie.Need-returns
 returns c = ((λ text pairs. c .unquote .ensures .0 text pairs ∙ ap runOf (value-empty _ _ _ _ (c .before .before .before .first-kept .ensures .1) text pairs (c .before .if1 .taken))), part-as unquote value _ _ _ _ _ (c .before .before .before .first-kept .ensures .1 .part .low) (λ text pairs. value-empty _ _ _ _ (c .before .before .before .first-kept .ensures .1) text pairs (c .before .if1 .taken)) (c .unquote .ensures .1))
 
--- src/naming.rt:57:8
 shared-slice-read-if2 : tie.Need-shared-slice-read-if2
 shared-slice-read-if2 c = search needs
 
--- src/naming.rt:58:42
 add-t9 : tie.Need-add-t9
 add-t9 c = search needs
 
--- src/naming.rt:58:9
 unquote-requires-2 : tie.Need-unquote-requires-2
 unquote-requires-2 c κs = (omega arith, omega arith)
 
--- src/naming.rt:58:9
 returns-2 : tie.Need-returns-2
 returns-2 c = ((λ text pairs. c .unquote2 .ensures .0 text pairs ∙ ap runOf (value-blank _ _ _ _ (c .before .before .before .before .before .first-kept .ensures .1) text pairs (c .before .before .before .if1 .left) (c .before .if2 .taken))), part-as unquote value _ _ _ _ _ (omega (arith, c .before .before .before .before .before .first-kept .ensures .1 .part .low)) (λ text pairs. value-blank _ _ _ _ (c .before .before .before .before .before .first-kept .ensures .1) text pairs (c .before .before .before .if1 .left) (c .before .if2 .taken)) (c .unquote2 .ensures .1))
 
--- src/naming.rt:60:5
 unquote-requires-3 : tie.Need-unquote-requires-3
 unquote-requires-3 c κs = (omega (arith, c .before .before .before .before .first-kept .ensures .1 .part .mid), omega arith)
 
--- src/naming.rt:47:1
 returns-3 : tie.Need-returns-3
 returns-3 c = ((λ text pairs. c .unquote3 .ensures .0 text pairs ∙ ap runOf (value-word _ _ _ _ (c .before .before .before .before .before .first-kept .ensures .1) text pairs (c .before .before .before .if1 .left) (c .before .if2 .left))), part-as unquote value _ _ _ _ _ (c .before .before .before .before .before .first-kept .ensures .1 .part .low) (λ text pairs. value-word _ _ _ _ (c .before .before .before .before .before .first-kept .ensures .1) text pairs (c .before .before .before .if1 .left) (c .before .if2 .left)) (c .unquote3 .ensures .1))
 

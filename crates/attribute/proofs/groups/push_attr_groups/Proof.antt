@@ -1,21 +1,10 @@
-use borrow.Author.Needs.{needs}
-use Prim.Native.Nat.{ℕ, zero, suc, _+_, _*_, _-_, _≤_, _<_}
+-- `push_attr_groups` writes a row for each group. The loop's invariant (`Grouping`): the rows written and those of the groups left are those of the whole. Assumes nothing.
+use Prim.Native.Nat.{_-_}
 use native.Mathlib.Omega.{arith}
-use native.Mathlib.Numerals.{add-one}
-use mathlib.Core.Bool.{Bool, true, false, cond, not, _&&_, _||_}
-use mathlib.Core.Path.{_≡_, refl, sym, ap, subst, _∙_}
-use mathlib.Core.Logic.{⊎-elim}
-use mathlib.Core.List.{List, [], _∷_, _++_}
-use lib.Dec.{eqb}
-use lib.ListN.{length, getD, take, drop, set, length-set}
-use borrow.Author.Tests.{eq-eqb, ne-eqb, lt-ltb, le-ltb, le-leb, lt-leb}
+use mathlib.Core.Path.{_∙_}
 use Rattle.attribute.proofs.GroupRows.{Grouping, grouping-start, grouping-next, grouping-done}
 use Rattle.attribute.proofs.groups.push_attr_groups.Statement.{statement}
 use Rattle.attribute.proofs.groups.push_attr_groups.Tie as tie
-use Rattle.attribute.proofs.groups.push_attr_groups.Reads as reads
-use Rattle.attribute.proofs.groups.push_attr_groups.Lts as lts
-use Rattle.attribute.proofs.groups.put_group.Reads as put-group-reads
-use Rattle.token.proofs.runs.find_kind.Reads as find-kind-reads
 
 abbrev Inv-loop : tie.InvT-loop
 Inv-loop kinds delimiter tag to rows₀ at stop i₀ n₀ rows i n = Grouping kinds delimiter tag i₀ stop rows₀ at i rows n
@@ -23,35 +12,27 @@ Inv-loop kinds delimiter tag to rows₀ at stop i₀ n₀ rows i n = Grouping ki
 abbrev μ-loop : tie.MeasureT-loop
 μ-loop kinds delimiter tag to rows₀ at stop i₀ n₀ rows i n = stop - i
 
--- src/groups.rt:57:5
 loop-holds : tie.Need-loop-holds Inv-loop μ-loop
 loop-holds c = grouping-start _ _ _ _ _ _ _ (omega arith)
 
--- src/groups.rt:58:13
 find-kind-requires : tie.Need-find-kind-requires Inv-loop μ-loop
 find-kind-requires c κs = (omega (arith, c .loop .inv .high), omega arith, c .before .before .before .pre .0 .3)
 
--- src/groups.rt:59:9
 put-group-requires : tie.Need-put-group-requires Inv-loop μ-loop
 put-group-requires c κs = ((omega (arith, c .before .find-kind .ensures .1 .low), omega (arith, c .before .find-kind .ensures .1 .high), c .before .before .before .before .before .pre .0 .2), omega (arith, c .before .before .loop .inv .few, c .before .before .loop .inv .low, c .before .before .loop .inv .high, c .before .before .loop .inv .long, c .before .before .before .before .before .pre .1, c .before .find-kind .ensures .1 .high, c .before .find-kind .ensures .1 .low))
 
--- src/groups.rt:61:13
 same-length : tie.Need-same-length Inv-loop μ-loop
 same-length c = c .before .before .before .before .put-group .kept .1 .1 .1 .1 .0 ∙ c .before .before .before .before .before .before .before .loop .inv .long
 
--- src/groups.rt:61:13
 returns : tie.Need-returns Inv-loop μ-loop
 returns c = (grouping-done _ _ _ _ _ _ _ (c .before .before .before .before .before .before .before .loop .i) (c .before .before .before .before .before .before .before .loop .rows) (c .before .before .before .before .before .before .before .loop .n) (c .before .before .before .before .before .before .find-kind .result .0) (c .before .before .before .before .before .before .before .loop .inv) (c .before .before .before .before .before .before .find-kind .ensures .1) _ _ (c .before .before .before .before .put-group .ensures .0) (c .before .before .before .before .put-group .ensures .1) (c .if1 .taken), omega (arith, c .before .before .before .before .put-group .ensures .1, c .before .before .before .before .before .before .before .loop .inv .few, c .before .before .before .before .before .before .before .loop .inv .low, c .before .before .before .before .before .before .find-kind .ensures .1 .high, c .before .before .before .before .before .before .find-kind .ensures .1 .low))
 
--- src/groups.rt:63:13
 add-i : tie.Need-add-i Inv-loop μ-loop
 add-i c = omega arith
 
--- src/groups.rt:57:5
 loop-less : tie.Need-loop-less Inv-loop μ-loop
 loop-less c = omega (arith, c .before .before .before .before .before .before .before .find-kind .ensures .1 .low, c .before .if1 .left)
 
--- src/groups.rt:57:5
 loop-again : tie.Need-loop-again Inv-loop μ-loop
 loop-again c = grouping-next _ _ _ _ _ _ _ (c .before .before .before .before .before .before .before .before .loop .i) (c .before .before .before .before .before .before .before .before .loop .rows) (c .before .before .before .before .before .before .before .before .loop .n) (c .before .before .before .before .before .before .before .find-kind .result .0) (c .before .before .before .before .before .before .before .before .loop .inv) (c .before .before .before .before .before .before .before .find-kind .ensures .1) _ _ (c .before .before .before .before .before .put-group .ensures .0) (c .before .before .before .before .before .put-group .ensures .1) (c .before .if1 .left) (c .before .before .before .before .before .put-group .kept .1 .1 .1 .1 .0)
 

@@ -1,44 +1,30 @@
+-- `is_stop` tells a Hash, a Percent and a one-byte Dots from other tokens, by its kind and its length. Assumes nothing.
 use borrow.Author.Needs.{needs}
-use Prim.Native.Nat.{ℕ, zero, suc, _+_, _*_, _-_, _≤_, _<_}
+use Prim.Native.Nat.{ℕ, _-_}
 use native.Mathlib.Omega.{arith}
-use native.Mathlib.Numerals.{add-one}
-use mathlib.Core.Bool.{Bool, true, false, cond, not, _&&_, _||_}
-use mathlib.Core.Path.{_≡_, refl, sym, ap, subst, _∙_}
-use mathlib.Core.Logic.{⊎-elim}
-use mathlib.Core.List.{List, [], _∷_, _++_}
+use mathlib.Core.Path.{sym, ap, _∙_}
 use lib.Dec.{eqb}
-use lib.ListN.{length, getD, take, drop, set, length-set}
-use borrow.Author.Tests.{eq-eqb, ne-eqb, lt-ltb, le-ltb, le-leb, lt-leb}
 use Rattle.attribute.proofs.GroupRows.{stop-hash, stop-percent, stop-dots, stop-not}
 use Rattle.token.specs.NamesLaws.{kind-of, kind-not, one-is}
 use Rattle.token.specs.Line.{lineOf, tokenAt}
 use Rattle.attribute.proofs.shorthand.is_stop.Statement.{statement}
 use Rattle.attribute.proofs.shorthand.is_stop.Tie as tie
-use Rattle.attribute.proofs.shorthand.is_stop.Reads as reads
-use Rattle.attribute.proofs.shorthand.is_stop.Lts as lts
-use Rattle.token.proofs.line.length_of.Reads as length-of-reads
 
--- src/shorthand.rt:49:11
 shared-slice-read-match : tie.Need-shared-slice-read-match
 shared-slice-read-match c = search needs
 
--- src/shorthand.rt:52:17
 length-of-requires : tie.Need-length-of-requires
 length-of-requires c κs = omega (arith, c .before .before .before .before .before .pre .0 .paired, c .before .before .before .before .before .pre .1)
 
--- src/shorthand.rt:43:1
 returns : tie.Need-returns
 returns c = stop-hash (tokenAt (lineOf (c .before .before .before .before .before .args .kinds .now) (c .before .before .before .before .before .args .text .now) (c .before .before .before .before .before .args .pairs .now)) (c .before .before .before .before .before .args .at .0)) (kind-of (lineOf (c .before .before .before .before .before .args .kinds .now) (c .before .before .before .before .before .args .text .now) (c .before .before .before .before .before .args .pairs .now)) (c .before .before .before .before .before .args .at .0) _ (c .match .keys1))
 
--- src/shorthand.rt:43:1
 returns-2 : tie.Need-returns-2
 returns-2 c = stop-percent (tokenAt (lineOf (c .before .before .before .before .before .args .kinds .now) (c .before .before .before .before .before .args .text .now) (c .before .before .before .before .before .args .pairs .now)) (c .before .before .before .before .before .args .at .0)) (kind-of (lineOf (c .before .before .before .before .before .args .kinds .now) (c .before .before .before .before .before .args .text .now) (c .before .before .before .before .before .args .pairs .now)) (c .before .before .before .before .before .args .at .0) _ (c .match .keys2))
 
--- src/shorthand.rt:43:1
 returns-3 : tie.Need-returns-3
 returns-3 c = stop-dots (tokenAt (lineOf (c .before .before .before .before .before .before .args .kinds .now) (c .before .before .before .before .before .before .args .text .now) (c .before .before .before .before .before .before .args .pairs .now)) (c .before .before .before .before .before .before .args .at .0)) (kind-of (lineOf (c .before .before .before .before .before .before .args .kinds .now) (c .before .before .before .before .before .before .args .text .now) (c .before .before .before .before .before .before .args .pairs .now)) (c .before .before .before .before .before .before .args .at .0) _ (c .before .match .keys3)) _ (one-is _ _ _ (c .before .before .before .before .before .before .pre .0) _ (c .before .before .before .before .before .before .pre .1) ∙ ap (λ (n : ℕ). eqb n 1) (sym (c .length-of .ensures)))
 
--- src/shorthand.rt:43:1
 returns-4 : tie.Need-returns-4
 returns-4 c = stop-not (tokenAt (lineOf (c .before .before .before .before .before .args .kinds .now) (c .before .before .before .before .before .args .text .now) (c .before .before .before .before .before .args .pairs .now)) (c .before .before .before .before .before .args .at .0)) (kind-not (lineOf (c .before .before .before .before .before .args .kinds .now) (c .before .before .before .before .before .args .text .now) (c .before .before .before .before .before .args .pairs .now)) (c .before .before .before .before .before .args .at .0) _ (c .match .rest .0 .0 .1)) (kind-not (lineOf (c .before .before .before .before .before .args .kinds .now) (c .before .before .before .before .before .args .text .now) (c .before .before .before .before .before .args .pairs .now)) (c .before .before .before .before .before .args .at .0) _ (c .match .rest .0 .1)) (kind-not (lineOf (c .before .before .before .before .before .args .kinds .now) (c .before .before .before .before .before .args .text .now) (c .before .before .before .before .before .args .pairs .now)) (c .before .before .before .before .before .args .at .0) _ (c .match .rest .1))
 

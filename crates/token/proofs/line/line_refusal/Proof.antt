@@ -1,70 +1,51 @@
+-- `line_refusal` gives the number of the first check that applies, by the tests that failed before it. Assumes nothing.
 use borrow.Author.Needs.{needs}
-use Prim.Native.Nat.{ℕ, zero, suc, _+_, _*_, _-_, _≤_, _<_}
+use Prim.Native.Nat.{_*_, _-_}
 use native.Mathlib.Omega.{arith}
-use native.Mathlib.Numerals.{add-one}
-use mathlib.Core.Bool.{Bool, true, false, cond, not, _&&_, _||_}
-use mathlib.Core.Path.{_≡_, refl, sym, ap, subst, _∙_}
-use mathlib.Core.Logic.{⊎-elim}
-use mathlib.Core.List.{List, [], _∷_, _++_}
-use lib.Dec.{eqb}
-use lib.ListN.{length, getD, take, drop, set, length-set}
-use borrow.Author.Tests.{eq-eqb, ne-eqb, lt-ltb, le-ltb, le-leb, lt-leb}
+use mathlib.Core.Path.{sym, _∙_}
+use lib.ListN.{length}
+use borrow.Author.Tests.{eq-eqb, ne-eqb, lt-ltb, le-ltb}
 use Rattle.token.specs.Line.{refusal}
 use Rattle.token.proofs.line.line_refusal.Statement.{statement}
 use Rattle.token.proofs.line.line_refusal.Tie as tie
-use Rattle.token.proofs.line.line_refusal.Reads as reads
-use Rattle.token.proofs.line.line_refusal.Lts as lts
-use Rattle.token.proofs.line.some_misplaced.Reads as some-misplaced-reads
-use Rattle.token.proofs.line.some_over.Reads as some-over-reads
 
--- src/line.rt:80:9
 returns : tie.Need-returns
 unfolding refusal
 returns c = rw (eq-eqb _ _ (c .if1 .taken))
 
--- src/line.rt:83:9
 returns-2 : tie.Need-returns-2
 unfolding refusal
 returns-2 c = rw (ne-eqb _ _ (c .before .if1 .left), lt-ltb _ _ (c .if2 .taken))
 
--- src/line.rt:86:9
 returns-3 : tie.Need-returns-3
 unfolding refusal
 returns-3 c = rw (ne-eqb _ _ (c .before .before .if1 .left), le-ltb _ _ (c .before .if2 .left), lt-ltb _ _ (c .if3 .taken))
 
--- src/line.rt:89:9
 returns-4 : tie.Need-returns-4
 unfolding refusal
 returns-4 c = rw (ne-eqb _ _ (c .before .before .before .if1 .left), le-ltb _ _ (c .before .before .if2 .left), le-ltb _ _ (c .before .if3 .left), ne-eqb (length (c .before .before .before .before .before .before .before .args .pairs .now)) (2 * length (c .before .before .before .before .before .before .before .args .kinds .now)) (λ e. omega arith))
 
--- src/line.rt:91:8
 sub-if5 : tie.Need-sub-if5
 sub-if5 c = search needs
 
--- src/line.rt:92:9
 returns-5 : tie.Need-returns-5
 unfolding refusal
 returns-5 c = rw (ne-eqb _ _ (c .before .before .before .before .if1 .left), le-ltb _ _ (c .before .before .before .if2 .left), le-ltb _ _ (c .before .before .if3 .left), ne-eqb (length (c .before .before .before .before .before .before .before .before .args .pairs .now)) (2 * length (c .before .before .before .before .before .before .before .before .args .kinds .now)) (λ e. omega arith))
 
--- src/line.rt:94:8
 some-over-requires : tie.Need-some-over-requires
 some-over-requires c κs = search needs
 
--- src/line.rt:95:9
 returns-6 : tie.Need-returns-6
 unfolding refusal
 returns-6 c = rw (ne-eqb _ _ (c .before .before .before .before .before .before .if1 .left), le-ltb _ _ (c .before .before .before .before .before .if2 .left), le-ltb _ _ (c .before .before .before .before .if3 .left), eq-eqb (length (c .before .before .before .before .before .before .before .before .before .before .args .pairs .now)) (2 * length (c .before .before .before .before .before .before .before .before .before .before .args .kinds .now)) (omega arith), sym (c .before .some-over .ensures) ∙ c .if6 .taken)
 
--- src/line.rt:97:8
 some-misplaced-requires : tie.Need-some-misplaced-requires
 some-misplaced-requires c κs = omega arith
 
--- src/line.rt:98:9
 returns-7 : tie.Need-returns-7
 unfolding refusal
 returns-7 c = rw (ne-eqb _ _ (c .before .before .before .before .before .before .before .before .if1 .left), le-ltb _ _ (c .before .before .before .before .before .before .before .if2 .left), le-ltb _ _ (c .before .before .before .before .before .before .if3 .left), eq-eqb (length (c .before .before .before .before .before .before .before .before .before .before .before .before .args .pairs .now)) (2 * length (c .before .before .before .before .before .before .before .before .before .before .before .before .args .kinds .now)) (omega arith), sym (c .before .before .before .some-over .ensures) ∙ c .before .before .if6 .left, sym (c .before .some-misplaced .ensures) ∙ c .if7 .taken)
 
--- src/line.rt:75:1
 returns-8 : tie.Need-returns-8
 unfolding refusal
 returns-8 c = rw (ne-eqb _ _ (c .before .before .before .before .before .before .before .before .if1 .left), le-ltb _ _ (c .before .before .before .before .before .before .before .if2 .left), le-ltb _ _ (c .before .before .before .before .before .before .if3 .left), eq-eqb (length (c .before .before .before .before .before .before .before .before .before .before .before .before .args .pairs .now)) (2 * length (c .before .before .before .before .before .before .before .before .before .before .before .before .args .kinds .now)) (omega arith), sym (c .before .before .before .some-over .ensures) ∙ c .before .before .if6 .left, sym (c .before .some-misplaced .ensures) ∙ c .if7 .left)

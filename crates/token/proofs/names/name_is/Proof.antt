@@ -1,27 +1,13 @@
-use borrow.Author.Needs.{needs}
-use Prim.Native.Nat.{ℕ, zero, suc, _+_, _*_, _-_, _≤_, _<_}
+-- `name_is` goes from token to token. The loop's invariant (`Naming`): the bytes of the tokens left are what is left of the name exactly where all are the name. Assumes nothing.
+use Prim.Native.Nat.{_-_}
 use native.Mathlib.Omega.{arith}
-use native.Mathlib.Numerals.{add-one}
-use mathlib.Core.Bool.{Bool, true, false, cond, not, _&&_, _||_}
-use mathlib.Core.Path.{_≡_, refl, sym, ap, subst, _∙_}
-use mathlib.Core.Logic.{⊎-elim}
-use mathlib.Core.List.{List, [], _∷_, _++_}
-use lib.Dec.{eqb}
-use lib.ListN.{length, getD, take, drop, set, length-set}
-use borrow.Author.Tests.{eq-eqb, ne-eqb, lt-ltb, le-ltb, le-leb, lt-leb}
+use mathlib.Core.Path.{sym, _∙_}
 use Rattle.token.specs.Line.{tokenAt}
-use Rattle.token.proofs.Naming.{Naming, naming-start, naming-skip, naming-space, naming-differs, naming-on, naming-end, lexeme-is}
+use Rattle.token.proofs.Naming.{Naming, naming-start, naming-skip, naming-space, naming-differs, naming-on, naming-end}
 use Rattle.token.proofs.Quotes.{not-true, not-false}
 use Rattle.token.specs.NamesLaws.{lexeme-length}
-use Rattle.token.specs.Names.{prefix}
-use Rattle.token.specs.LineLaws.{Lent}
-use Rattle.token.specs.Line.{lineOf}
 use Rattle.token.proofs.names.name_is.Statement.{statement}
 use Rattle.token.proofs.names.name_is.Tie as tie
-use Rattle.token.proofs.names.name_is.Reads as reads
-use Rattle.token.proofs.names.name_is.Lts as lts
-use Rattle.token.proofs.line.length_of.Reads as length-of-reads
-use Rattle.token.proofs.names.goes_on.Reads as goes-on-reads
 
 abbrev Inv-loop : tie.InvT-loop
 Inv-loop kinds text pairs name end i₀ at₀ i at = Naming kinds text pairs i₀ end name i at
@@ -29,69 +15,53 @@ Inv-loop kinds text pairs name end i₀ at₀ i at = Naming kinds text pairs i�
 abbrev μ-loop : tie.MeasureT-loop
 μ-loop kinds text pairs name end i₀ at₀ i at = end - i
 
--- src/names.rt:57:5
 loop-holds : tie.Need-loop-holds Inv-loop μ-loop
 loop-holds c = naming-start _ _ _ _ _ _ (omega arith)
 
--- src/names.rt:58:15
 shared-slice-read-match : tie.Need-shared-slice-read-match Inv-loop μ-loop
 shared-slice-read-match c = omega arith
 
--- src/names.rt:59:25
 add-i : tie.Need-add-i Inv-loop μ-loop
 add-i c = omega arith
 
--- src/names.rt:57:5
 loop-less : tie.Need-loop-less Inv-loop μ-loop
 loop-less c = omega arith
 
--- src/names.rt:57:5
 loop-again : tie.Need-loop-again Inv-loop μ-loop
 loop-again c = naming-skip _ _ _ _ _ _ (c .before .before .before .loop .i) (c .before .before .before .loop .at) (c .before .before .loop-test .taken) (c .before .before .before .loop .inv) (c .match .keys1)
 
--- src/names.rt:60:27
 add-i-2 : tie.Need-add-i-2 Inv-loop μ-loop
 add-i-2 c = omega arith
 
--- src/names.rt:57:5
 loop-less-2 : tie.Need-loop-less-2 Inv-loop μ-loop
 loop-less-2 c = omega arith
 
--- src/names.rt:57:5
 loop-again-2 : tie.Need-loop-again-2 Inv-loop μ-loop
 loop-again-2 c = naming-space _ _ _ _ _ _ (c .before .before .before .loop .i) (c .before .before .before .loop .at) (c .before .before .loop-test .taken) (c .before .before .before .loop .inv) (λ e. omega (arith, c .match .keys2, e)) (c .match .keys2)
 
--- src/names.rt:62:21
 goes-on-requires : tie.Need-goes-on-requires Inv-loop μ-loop
 goes-on-requires c κs = (omega (arith, c .before .before .before .before .before .before .before .before .pre .0 .paired), c .before .before .before .before .before .before .before .before .pre .0 .within (c .before .before .before .loop .i) (omega arith), c .before .before .before .loop .inv .room)
 
--- src/names.rt:63:21
 returns : tie.Need-returns Inv-loop μ-loop
 unfolding tokenAt
 returns c = naming-differs _ _ _ _ _ _ (c .before .before .before .before .before .loop .i) (c .before .before .before .before .before .loop .at) (c .before .before .before .before .loop-test .taken) (c .before .before .before .before .before .loop .inv) (c .before .before .match .rest .0 .1) (c .before .before .match .rest .1) (sym (c .before .goes-on .ensures) ∙ not-true _ (c .if1 .taken))
 
--- src/names.rt:65:23
 length-of-requires : tie.Need-length-of-requires Inv-loop μ-loop
 length-of-requires c κs = omega (arith, c .before .before .before .before .before .before .before .before .before .before .pre .0 .paired)
 
--- src/names.rt:65:17
 add-at : tie.Need-add-at Inv-loop μ-loop
 add-at c = omega (arith, c .before .before .before .before .before .before .before .before .before .before .before .pre .0 .within (c .before .before .before .before .before .before .loop .i) (omega arith), c .before .before .before .before .before .before .before .before .before .before .before .pre .0 .short, c .length-of .ensures, c .before .before .before .before .before .before .loop .inv .room)
 
--- src/names.rt:66:17
 add-i-3 : tie.Need-add-i-3 Inv-loop μ-loop
 add-i-3 c = omega arith
 
--- src/names.rt:57:5
 loop-less-3 : tie.Need-loop-less-3 Inv-loop μ-loop
 loop-less-3 c = omega arith
 
--- src/names.rt:57:5
 loop-again-3 : tie.Need-loop-again-3 Inv-loop μ-loop
 unfolding tokenAt
 loop-again-3 c = naming-on _ _ _ _ _ _ (c .before .before .before .before .before .before .loop .i) (c .before .before .before .before .before .before .loop .at) (c .before .before .before .before .before .loop-test .taken) (c .before .before .before .before .before .before .loop .inv) (c .before .before .before .match .rest .0 .1) (c .before .before .before .match .rest .1) _ (lexeme-length _ _ _ (c .before .before .before .before .before .before .before .before .before .before .before .pre .0) _ (omega arith) ∙ sym (c .length-of .ensures)) (sym (c .before .before .goes-on .ensures) ∙ not-false _ (c .before .if1 .left))
 
--- src/names.rt:42:1
 returns-2 : tie.Need-returns-2 Inv-loop μ-loop
 returns-2 c = naming-end _ _ _ _ _ _ (c .before .loop .i) (c .before .loop .at) (c .loop-test .left) (c .before .loop .inv)
 

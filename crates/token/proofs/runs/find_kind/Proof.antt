@@ -1,24 +1,14 @@
-use borrow.Author.Needs.{needs}
-use Prim.Native.Nat.{ℕ, zero, suc, _+_, _*_, _-_, _≤_, _<_}
+-- `find_kind` looks for a kind. The loop's invariant (`Sought`): no kept token before here is of it. Assumes nothing.
+use Prim.Native.Nat.{_-_}
 use native.Mathlib.Omega.{arith}
-use native.Mathlib.Numerals.{add-one}
-use mathlib.Core.Bool.{Bool, true, false, cond, not, _&&_, _||_}
-use mathlib.Core.Path.{_≡_, refl, sym, ap, subst, _∙_}
-use mathlib.Core.Logic.{⊎-elim}
-use mathlib.Core.List.{List, [], _∷_, _++_}
-use lib.Dec.{eqb}
-use lib.ListN.{length, getD, take, drop, set, length-set}
-use borrow.Author.Tests.{eq-eqb, ne-eqb, lt-ltb, le-ltb, le-leb, lt-leb}
+use mathlib.Core.Path.{sym, _∙_}
 use Rattle.token.proofs.Finds.{Sought, sought-start, sought-next, sought-here, sought-end}
 use Rattle.token.specs.Kept.{is-kind, not-kind}
-use Rattle.token.specs.Parts.{FoundAt, found-place}
+use Rattle.token.specs.Parts.{found-place}
 use Rattle.token.specs.Line.{lineOf}
 use Rattle.token.specs.Run.{ofKind}
-use Rattle.token.specs.Kept.{FoundIn}
 use Rattle.token.proofs.runs.find_kind.Statement.{statement}
 use Rattle.token.proofs.runs.find_kind.Tie as tie
-use Rattle.token.proofs.runs.find_kind.Reads as reads
-use Rattle.token.proofs.runs.find_kind.Lts as lts
 
 abbrev Inv-loop : tie.InvT-loop
 Inv-loop kinds kind end i₀ i = Sought (ofKind kind) kinds i₀ end i
@@ -26,31 +16,24 @@ Inv-loop kinds kind end i₀ i = Sought (ofKind kind) kinds i₀ end i
 abbrev μ-loop : tie.MeasureT-loop
 μ-loop kinds kind end i₀ i = end - i
 
--- src/runs.rt:173:5
 loop-holds : tie.Need-loop-holds Inv-loop μ-loop
 loop-holds c = sought-start _ _ _ _ (omega arith)
 
--- src/runs.rt:174:12
 shared-slice-read-if1 : tie.Need-shared-slice-read-if1 Inv-loop μ-loop
 shared-slice-read-if1 c = omega arith
 
--- src/runs.rt:175:13
 returns : tie.Need-returns Inv-loop μ-loop
 returns c = let w = sought-here _ _ _ _ _ (c .before .before .loop-test .taken) (λ e. c .before .before .before .before .pre .2 (sym (c .if1 .taken) ∙ e)) (λ text pairs. is-kind (lineOf _ text pairs) _ _ (c .if1 .taken)) (c .before .before .before .loop .inv) in ((λ text pairs. found-place _ _ _ _ _ (w .high) (w .found text pairs)), w)
 
--- src/runs.rt:177:9
 add-i : tie.Need-add-i Inv-loop μ-loop
 add-i c = omega arith
 
--- src/runs.rt:173:5
 loop-less : tie.Need-loop-less Inv-loop μ-loop
 loop-less c = omega arith
 
--- src/runs.rt:173:5
 loop-again : tie.Need-loop-again Inv-loop μ-loop
 loop-again c = sought-next _ _ _ _ _ (c .before .before .loop-test .taken) (λ text pairs. not-kind (lineOf _ text pairs) _ _ (c .if1 .left)) (c .before .before .before .loop .inv)
 
--- src/runs.rt:166:1
 returns-2 : tie.Need-returns-2 Inv-loop μ-loop
 returns-2 c = let w = sought-end _ _ _ _ _ (c .loop-test .left) (c .before .loop .inv) in ((λ text pairs. found-place _ _ _ _ _ (w .high) (w .found text pairs)), w)
 

@@ -1,20 +1,11 @@
-use borrow.Author.Needs.{needs}
-use Prim.Native.Nat.{ℕ, zero, suc, _+_, _*_, _-_, _≤_, _<_}
+-- `past_last_kept` steps back over AttrRef. The loop's invariant (`Right`): what is kept before here is what is kept of the whole. Assumes nothing.
+use Prim.Native.Nat.{_-_}
 use native.Mathlib.Omega.{arith}
-use native.Mathlib.Numerals.{add-one}
-use mathlib.Core.Bool.{Bool, true, false, cond, not, _&&_, _||_}
-use mathlib.Core.Path.{_≡_, refl, sym, ap, subst, _∙_}
-use mathlib.Core.Logic.{⊎-elim}
-use mathlib.Core.List.{List, [], _∷_, _++_}
-use lib.Dec.{eqb}
-use lib.ListN.{length, getD, take, drop, set, length-set}
-use borrow.Author.Tests.{eq-eqb, ne-eqb, lt-ltb, le-ltb, le-leb, lt-leb}
+use mathlib.Core.Path.{refl}
 use Rattle.token.proofs.Ranges.{Right, right-start, right-skip, right-done, right-end}
 use Rattle.token.specs.Parts.{all}
 use Rattle.token.proofs.runs.past_last_kept.Statement.{statement}
 use Rattle.token.proofs.runs.past_last_kept.Tie as tie
-use Rattle.token.proofs.runs.past_last_kept.Reads as reads
-use Rattle.token.proofs.runs.past_last_kept.Lts as lts
 
 abbrev Inv-loop : tie.InvT-loop
 Inv-loop kinds start i₀ i = Right all kinds start i₀ i
@@ -22,35 +13,27 @@ Inv-loop kinds start i₀ i = Right all kinds start i₀ i
 abbrev μ-loop : tie.MeasureT-loop
 μ-loop kinds start i₀ i = i
 
--- src/runs.rt:39:5
 loop-holds : tie.Need-loop-holds Inv-loop μ-loop
 loop-holds c = right-start _ _ _ _ (omega arith)
 
--- src/runs.rt:40:18
 sub-if1 : tie.Need-sub-if1 Inv-loop μ-loop
 sub-if1 c = omega arith
 
--- src/runs.rt:40:12
 shared-slice-read-if1 : tie.Need-shared-slice-read-if1 Inv-loop μ-loop
 shared-slice-read-if1 c = omega arith
 
--- src/runs.rt:41:13
 returns : tie.Need-returns Inv-loop μ-loop
 returns c = right-done _ _ _ _ _ (λ text pairs. refl) (λ h. c .if1 .taken) (c .before .before .before .loop .inv)
 
--- src/runs.rt:43:9
 sub-i : tie.Need-sub-i Inv-loop μ-loop
 sub-i c = omega arith
 
--- src/runs.rt:39:5
 loop-less : tie.Need-loop-less Inv-loop μ-loop
 loop-less c = omega arith
 
--- src/runs.rt:39:5
 loop-again : tie.Need-loop-again Inv-loop μ-loop
 loop-again c = right-skip _ _ _ _ _ (c .before .before .loop-test .taken) (c .if1 .left) (c .before .before .before .loop .inv)
 
--- src/runs.rt:33:1
 returns-2 : tie.Need-returns-2 Inv-loop μ-loop
 returns-2 c = right-end _ _ _ _ _ (c .loop-test .left) refl (c .before .loop .inv)
 

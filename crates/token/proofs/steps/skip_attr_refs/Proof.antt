@@ -1,3 +1,4 @@
+-- `skip_attr_refs` finds the first token kept. The loop's invariant (`Left`): what is kept from here on is what is kept of the whole. Assumes nothing.
 use Prim.Native.Nat.{_-_}
 use native.Mathlib.Omega.{arith}
 use mathlib.Core.Path.{refl}
@@ -5,8 +6,6 @@ use Rattle.token.proofs.Ranges.{Left, left-start, left-skip, left-done,
 use Rattle.token.specs.Parts.{all, starts-place}
 use Rattle.token.proofs.steps.skip_attr_refs.Statement.{statement}
 use Rattle.token.proofs.steps.skip_attr_refs.Tie as tie
-use Rattle.token.proofs.steps.skip_attr_refs.Reads as reads
-use Rattle.token.proofs.steps.skip_attr_refs.Lts as lts
 
 abbrev Inv-loop : tie.InvT-loop
 Inv-loop kinds n i₀ i = Left all kinds i₀ n i
@@ -14,31 +13,24 @@ Inv-loop kinds n i₀ i = Left all kinds i₀ n i
 abbrev μ-loop : tie.MeasureT-loop
 μ-loop kinds n i₀ i = n - i
 
--- src/steps.rt:25:5
 loop-holds : tie.Need-loop-holds Inv-loop μ-loop
 loop-holds c = left-start _ _ _ _ (omega arith)
 
--- src/steps.rt:26:12
 shared-slice-read-if1 : tie.Need-shared-slice-read-if1 Inv-loop μ-loop
 shared-slice-read-if1 c = omega arith
 
--- src/steps.rt:27:13
 returns : tie.Need-returns Inv-loop μ-loop
 returns c = starts-place _ _ _ _ _ (left-done _ _ _ _ _ (λ text pairs. refl) (λ h. c .if1 .taken) (c .before .before .before .loop .inv))
 
--- src/steps.rt:29:9
 add-i : tie.Need-add-i Inv-loop μ-loop
 add-i c = omega arith
 
--- src/steps.rt:25:5
 loop-less : tie.Need-loop-less Inv-loop μ-loop
 loop-less c = omega arith
 
--- src/steps.rt:25:5
 loop-again : tie.Need-loop-again Inv-loop μ-loop
 loop-again c = left-skip _ _ _ _ _ (c .before .before .loop-test .taken) (c .if1 .left) (c .before .before .before .loop .inv)
 
--- src/steps.rt:19:1
 returns-2 : tie.Need-returns-2 Inv-loop μ-loop
 returns-2 c = starts-place _ _ _ _ _ (left-end _ _ _ _ _ (c .loop-test .left) refl (c .before .loop .inv))
 

@@ -1,25 +1,25 @@
 -- What one token decides, by its kind, and the loop that looks from the left.
-use Prim.Native.Nat.{ℕ, zero, suc, _+_, _*_, _-_, _≤_, _<_}
+use Prim.Native.Nat.{ℕ, _+_, _*_, _-_, _≤_, _<_}
 use native.Mathlib.Omega.{arith}
 use mathlib.Core.Bool.{Bool, true, false, cond, not, _&&_, _||_, and-false}
-use mathlib.Core.Path.{_≡_, refl, sym, ap, subst, _∙_}
-use mathlib.Core.List.{List, [], _∷_, _++_}
+use mathlib.Core.Path.{_≡_, refl, sym, ap, _∙_}
+use mathlib.Core.List.{List, [], _∷_}
 use lib.Dec.{eqb}
 use lib.ListN.{length, getD}
-use borrow.Author.Tests.{eq-eqb, ne-eqb, eqb-true, eqb-false}
+use borrow.Author.Tests.{ne-eqb}
 use Rattle.attr_ir.specs.declared.Reading.{Reading}
 use Rattle.attr_ir.specs.declared.Reading.the-variants.{Shorthand, Positional, Named}
 use Rattle.attr_ir.specs.declared.Sight.{Sight}
 use Rattle.attr_ir.specs.declared.Sight.the-variants.{Is, On}
 use Rattle.token.specs.Kind.{attrRef, dots, hash, percent, equalSigns, doubleQuote, singleQuote, whitespace}
-use Rattle.token.specs.Line.{Line, Token, lineOf, tokenAt}
+use Rattle.token.specs.Line.{Token, lineOf, tokenAt}
 use Rattle.token.specs.LineLaws.{Lent}
-use Rattle.token.specs.Run.{kept, ofKind, ofOne, isEquals, isWhitespace}
+use Rattle.token.specs.Run.{kept, ofOne, isEquals}
 use Rattle.token.specs.Names.{sameBytes}
-use Rattle.token.specs.NamesLaws.{kind-of, one-is, lexeme-one, lexeme-length, one-byte, not-one}
+use Rattle.token.specs.NamesLaws.{one-is, lexeme-one, lexeme-length, one-byte, not-one}
 use Rattle.token.specs.Kept.{kind-is, is-kind, not-kind, kept-none, kept-first}
-use Rattle.token.specs.Parts.{all, StartsAt, Narrowed}
-use Rattle.attr_ir.specs.Look.{isSymbol, isQuote, any, nextSpace, nextEquals, symbolSight, sight, decided, look}
+use Rattle.token.specs.Parts.{all, StartsAt}
+use Rattle.attr_ir.specs.Look.{isSymbol, any, nextEquals, symbolSight, sight, decided, look}
 
 -- what stands after a place, where the next kept token is at `next`
 module _ (kinds : List ℕ) (from to next : ℕ) (w : StartsAt all kinds from to next) (text pairs : List ℕ) where

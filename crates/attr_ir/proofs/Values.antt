@@ -1,23 +1,23 @@
 -- Names and values of a named attribute.
-use Prim.Native.Nat.{ℕ, zero, suc, _+_, _*_, _-_, _≤_, _<_}
+use Prim.Native.Nat.{ℕ, _+_, _-_, _≤_, _<_}
 use native.Mathlib.Omega.{arith}
 use native.Mathlib.Decide.{decLt}
-use mathlib.Core.Bool.{Bool, true, false, cond, not, _&&_, _||_}
-use mathlib.Core.Path.{_≡_, refl, sym, ap, subst, _∙_}
+use mathlib.Core.Bool.{Bool, true, false, cond, _||_}
+use mathlib.Core.Path.{_≡_, refl, sym, ap, _∙_}
 use mathlib.Core.List.{List, [], _∷_}
-use lib.ListN.{length, getD}
+use lib.ListN.{getD}
 use Rattle.token.specs.declared.Run.{Run}
 use Rattle.token.specs.Kind.{whitespace}
 use Rattle.token.specs.Line.{Line, Token, lineOf, tokenAt}
-use Rattle.token.specs.Run.{kept, isWhitespace, isEquals, without, upTo, onward, unquote, trim, runOf, inRun}
+use Rattle.token.specs.Run.{kept, isWhitespace, isEquals, without, unquote, runOf, inRun}
 use Rattle.token.specs.Names.{bytes, sameBytes}
-use Rattle.token.specs.Kept.{Ends, FoundIn, is-kind, not-kind, kept-none, kept-first, run-without}
+use Rattle.token.specs.Kept.{FoundIn, is-kind, not-kind, kept-none, kept-first}
 use Rattle.token.specs.Parts.{all, StartsAt, Part, FoundAt}
 use Rattle.attr_ir.specs.declared.Name.{Name}
 use Rattle.attr_ir.specs.declared.Name.the-variants.{Options, Role, Id, Plain, Other}
 use Rattle.attr_ir.specs.declared.AttrIr.{AttrIr}
 use Rattle.attr_ir.specs.declared.AttrIr.the-variants as ir
-use Rattle.attr_ir.specs.Ir.{Ir, options, roles, ident, plain, named, nameTokens, lessFirst, lessSpace, value, valueTokens, options-name, opts-name, role-name, id-name, subs-name, cols-name, nameOf, namedIr, keyValueIr, runsOf, tokensOf}
+use Rattle.attr_ir.specs.Ir.{Ir, options, roles, ident, plain, named, nameTokens, lessFirst, value, valueTokens, options-name, opts-name, role-name, id-name, subs-name, cols-name, nameOf, namedIr, keyValueIr, runsOf, tokensOf}
 use Rattle.attr_ir.specs.Parts.{InLine, Bounded}
 
 -- ---- what a name asks for, by the six tests in order

@@ -1,5 +1,4 @@
 -- How an attribute is read: "Look from the left until decided" (document 01, "One attribute").
-use Prim.Native.Nat.{ℕ}
 use mathlib.Core.Bool.{Bool, true, false, cond, not, _&&_, _||_}
 use mathlib.Core.List.{List, [], _∷_}
 use Rattle.token.specs.Line.{Token}

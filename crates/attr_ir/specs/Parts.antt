@@ -1,5 +1,5 @@
 -- What a caller may use of an attribute's runs: where they stand.
-use Prim.Native.Nat.{ℕ, _+_, _-_, _≤_, _<_}
+use Prim.Native.Nat.{ℕ, _+_, _-_, _≤_}
 use mathlib.Core.List.{List}
 use Rattle.token.specs.declared.Run.{Run}
 use Rattle.token.specs.Kept.{Ends}

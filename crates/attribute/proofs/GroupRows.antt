@@ -1,28 +1,27 @@
 -- Rows of groups and ids, and the search for the next symbol.
-use Prim.Native.Nat.{ℕ, zero, suc, _+_, _*_, _-_, _≤_, _<_}
+use Prim.Native.Nat.{ℕ, _+_, _*_, _-_, _≤_, _<_}
 use native.Mathlib.Omega.{arith}
-use mathlib.Core.Bool.{Bool, true, false, cond, not, _&&_, _||_}
+use mathlib.Core.Bool.{Bool, true, false}
 use mathlib.Core.Path.{_≡_, refl, sym, ap, subst, _∙_}
-use mathlib.Core.List.{List, [], _∷_, _++_}
+use mathlib.Core.List.{List, [], _∷_}
 use lib.Dec.{eqb}
 use lib.ListN.{length, getD}
-use lib.Seq.{sets, length-sets}
-use borrow.Author.Tests.{eq-eqb, ne-eqb, eqb-true, eqb-false}
+use lib.Seq.{sets}
+use borrow.Author.Tests.{ne-eqb, eqb-true, eqb-false}
 use Rattle.token.specs.declared.Run.{Run}
 use Rattle.token.specs.Kind.{attrRef, dots, hash, percent}
-use Rattle.token.specs.Line.{Line, Token, lineOf, tokenAt}
-use Rattle.token.specs.LineLaws.{Lent}
+use Rattle.token.specs.Line.{Token, lineOf, tokenAt}
 use Rattle.token.specs.Run.{kept, ofKind, ofOne, trim, runOf, onward}
-use Rattle.token.specs.Kept.{FoundIn, none-start, none-skip, none-more, found-here, found-none}
-use Rattle.token.specs.Parts.{Part, FoundAt}
+use Rattle.token.specs.Kept.{none-start, none-skip, none-more, found-here, found-none}
+use Rattle.token.specs.Parts.{FoundAt}
 use Rattle.token.specs.NamesLaws.{kind-of}
 use Rattle.row.specs.declared.Row.{Row}
-use Rattle.row.specs.Row.{width, numbers, oneRun, diagnostic, ident, withRows}
+use Rattle.row.specs.Row.{width, numbers, oneRun, diagnostic, ident}
 use Rattle.row.specs.Laws.{Writes, writes-start, writes-part, writes-wrote, Wrote, wrote-none, wrote-one}
 use Rattle.attribute.specs.declared.Written.{Written}
 use Rattle.attribute.specs.Attribute.{Read, oneRow, isStop, unlessEmpty, groups, groupRows, idRead}
 use Rattle.attribute.specs.Parts.{WroteId, StopsAt}
-use Rattle.attribute.proofs.Lists.{groups-next, groups-last, groupRows-first, unless-none, unless-some, run-count, id-none, id-second, id-first}
+use Rattle.attribute.proofs.Lists.{groups-next, groups-last, groupRows-first, unless-none, run-count, id-none, id-second, id-first}
 
 -- ---- one row
 

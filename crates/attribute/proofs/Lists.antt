@@ -1,22 +1,18 @@
 -- Groups, ids and pieces of shorthand, on lists of kept tokens.
-use Prim.Native.Nat.{ℕ, zero, suc, _+_, _*_, _-_, _≤_, _<_}
+use Prim.Native.Nat.{ℕ, _+_, _-_, _≤_, _<_}
 use native.Mathlib.Omega.{arith}
-use mathlib.Core.Bool.{Bool, true, false, cond, not, _&&_, _||_}
-use mathlib.Core.Path.{_≡_, refl, sym, ap, subst, _∙_}
+use mathlib.Core.Bool.{Bool, true, false, cond, _&&_, _||_}
+use mathlib.Core.Path.{_≡_, refl, ap, _∙_}
 use mathlib.Core.List.{List, [], _∷_, _++_}
-use lib.Dec.{eqb}
-use lib.ListN.{length, getD}
-use lib.Seq.{sets, length-sets}
-use borrow.Author.Tests.{eq-eqb, ne-eqb, eqb-true, eqb-false}
+use lib.ListN.{getD}
 use Rattle.token.specs.declared.Run.{Run}
-use Rattle.token.specs.Kind.{attrRef, dots, hash, percent}
-use Rattle.token.specs.Line.{Line, Token, lineOf, tokenAt}
-use Rattle.token.specs.LineLaws.{Lent}
+use Rattle.token.specs.Kind.{attrRef}
+use Rattle.token.specs.Line.{Line, Token, tokenAt}
 use Rattle.token.specs.Run.{kept, isHash, isPercent, upTo, onward, trim, runOf}
 use Rattle.token.specs.Kept.{FoundIn, onward-later, place-is, kept-none, kept-first, kept-split}
 use Rattle.row.specs.declared.Row.{Row}
 use Rattle.row.specs.Row.{oneRun, ident, diagnostic}
-use Rattle.attribute.specs.Attribute.{Read, oneRow, rowFirst, isStop, Piece, pieces, symbolRow, lastEmpty, shorthandRead, laterGroups, groups, unlessEmpty, groupRows, idRead}
+use Rattle.attribute.specs.Attribute.{oneRow, rowFirst, isStop, pieces, symbolRow, lastEmpty, shorthandRead, laterGroups, groups, unlessEmpty, groupRows, idRead}
 
 -- ---- groups
 

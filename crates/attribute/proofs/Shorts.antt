@@ -1,23 +1,21 @@
 -- The loop over the pieces of a shorthand.
-use Prim.Native.Nat.{ℕ, zero, suc, _+_, _*_, _-_, _≤_, _<_}
+use Prim.Native.Nat.{ℕ, _+_, _*_, _-_, _≤_, _<_}
 use native.Mathlib.Omega.{arith}
-use mathlib.Core.Bool.{Bool, true, false, cond, not, _&&_, _||_}
+use mathlib.Core.Bool.{Bool, true, false, cond, _&&_, _||_}
 use mathlib.Core.Path.{_≡_, refl, sym, ap, subst, _∙_}
-use mathlib.Core.List.{List, [], _∷_, _++_}
+use mathlib.Core.List.{List, [], _∷_}
 use lib.Dec.{eqb}
 use lib.ListN.{length, getD}
 use lib.Seq.{sets, length-sets}
-use borrow.Author.Tests.{eq-eqb, ne-eqb, eqb-true, eqb-false}
 use Rattle.token.specs.declared.Run.{Run}
-use Rattle.token.specs.Kind.{attrRef, dots, hash, percent}
-use Rattle.token.specs.Line.{Line, Token, lineOf, tokenAt}
-use Rattle.token.specs.LineLaws.{Lent}
+use Rattle.token.specs.Kind.{hash, percent}
+use Rattle.token.specs.Line.{lineOf, tokenAt}
 use Rattle.token.specs.Run.{kept, isHash, isPercent, runOf}
-use Rattle.token.specs.Kept.{FoundIn, kind-is, kept-none}
+use Rattle.token.specs.Kept.{kind-is, kept-none}
 use Rattle.token.specs.Parts.{all, StartsAt}
 use Rattle.row.specs.declared.Row.{Row}
 use Rattle.row.specs.Row.{width, numbers, oneRun, diagnostic}
-use Rattle.row.specs.Laws.{Writes, writes-start, writes-put, writes-part, writes-wrote, Wrote}
+use Rattle.row.specs.Laws.{Writes, writes-start, writes-put, writes-part, writes-wrote}
 use Rattle.attribute.specs.declared.Written.{Written}
 use Rattle.attribute.specs.Attribute.{Read, oneRow, rowFirst, pieces, shorthandRead}
 use Rattle.attribute.specs.Parts.{WroteId, StopsAt, StopFirst}

@@ -1,9 +1,8 @@
 -- Dots, Hash and Percent by their kinds.
 use Prim.Native.Nat.{ℕ}
 use native.Mathlib.Omega.{arith}
-use mathlib.Core.Bool.{Bool, true, false}
+use mathlib.Core.Bool.{true, false}
 use mathlib.Core.Path.{_≡_}
-use mathlib.Core.List.{List}
 use lib.ListN.{getD}
 use Rattle.token.specs.Kind.{dots, hash, percent}
 use Rattle.token.specs.Line.{Line, tokenAt}

@@ -3,19 +3,18 @@ use Prim.Native.Nat.{ℕ, zero, suc, _+_, _*_, _-_, _≤_, _<_}
 use native.Mathlib.Omega.{arith}
 use mathlib.Core.Bool.{Bool, true, false, cond, not, _&&_, _||_, and-false}
 use mathlib.Core.Path.{_≡_, refl, sym, ap, subst, _∙_}
-use mathlib.Core.List.{List, [], _∷_, _++_}
-use lib.Dec.{eqb}
+use mathlib.Core.List.{List, [], _∷_}
 use lib.ListN.{length, getD}
 use lib.Seq.{sets}
 use Rattle.token.specs.declared.Run.{Run}
 use Rattle.token.specs.Kind.{attrRef}
-use Rattle.token.specs.Line.{Line, Token, lineOf, tokenAt}
-use Rattle.token.specs.Run.{kept, isComma, isDots, isHash, isPercent, isDoubleQuote, isWhitespace, isEquals, ofOne, upTo, onward, trim, emptyRun, runOf, inRun}
+use Rattle.token.specs.Line.{Token, lineOf, tokenAt}
+use Rattle.token.specs.Run.{kept, isComma, isDots, isHash, isPercent, isWhitespace, isEquals, ofOne, upTo, onward, trim, emptyRun, runOf, inRun}
 use Rattle.token.specs.Kept.{Ends, place-is, kept-none, kept-first}
 use Rattle.token.specs.Parts.{Part, FoundAt}
 use Rattle.row.specs.declared.Row.{Row}
-use Rattle.row.specs.Row.{width, numbers, oneRun, emptyPositional, positional, named, plain, role, option, ident, diagnostic, withRows}
-use Rattle.row.specs.Laws.{Writes, writes-start, writes-put, Wrote}
+use Rattle.row.specs.Row.{width, numbers, oneRun, positional, named, plain, role, option, diagnostic, withRows}
+use Rattle.row.specs.Laws.{Writes, writes-start, writes-put}
 use Rattle.attr_ir.specs.declared.AttrIr.{AttrIr}
 use Rattle.attr_ir.specs.declared.AttrIr.the-variants as ir
 use Rattle.attr_ir.specs.declared.Reading.{Reading}
@@ -25,11 +24,11 @@ use Rattle.attr_ir.specs.declared.Sight.the-variants.{Is, On}
 use Rattle.attr_ir.specs.declared.Name.{Name}
 use Rattle.attr_ir.specs.declared.Name.the-variants as asks
 use Rattle.attr_ir.specs.Look.{isSymbol, isQuote, nextSpace, nextEquals, symbolSight, sight, decided, look}
-use Rattle.attr_ir.specs.Ir.{Ir, nameTokens, valueTokens, nameOf, namedIr, keyValueIr, irAs, attrIr, runsOf, tokensOf}
+use Rattle.attr_ir.specs.Ir.{nameTokens, valueTokens, nameOf, namedIr, keyValueIr, irAs, attrIr, runsOf, tokensOf}
 use Rattle.attr_ir.specs.Ir as is
-use Rattle.attr_ir.specs.Parts.{InLine, Bounded}
+use Rattle.attr_ir.specs.Parts.{InLine}
 use Rattle.attribute.specs.declared.Written.{Written}
-use Rattle.attribute.specs.Attribute.{Read, oneRow, rowFirst, isStop, pieces, shorthandRead, groups, groupRows, groupRead, idRead, cutRead, irRead, reading, attribute}
+use Rattle.attribute.specs.Attribute.{Read, oneRow, rowFirst, isStop, pieces, shorthandRead, groups, groupRead, idRead, cutRead, irRead, reading, attribute}
 use Rattle.attribute.specs.Laws.{again, cut-has-symbol}
 use Rattle.attribute.specs.Parts.{written, WroteId, StopFirst}
 use Rattle.attribute.proofs.Lists.{run-count}

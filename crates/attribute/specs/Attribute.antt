@@ -1,10 +1,10 @@
 -- The rows of one attribute (document 01, "One attribute").
-use Prim.Native.Nat.{ℕ, zero, suc, _+_, _-_}
-use mathlib.Core.Bool.{Bool, true, false, cond, not, _&&_, _||_}
-use mathlib.Core.List.{List, [], _∷_, _++_}
+use Prim.Native.Nat.{ℕ, zero, suc, _-_}
+use mathlib.Core.Bool.{Bool, true, false, cond, _&&_, _||_}
+use mathlib.Core.List.{List, [], _∷_}
 use lib.ListN.{length}
 use Rattle.token.specs.declared.Run.{Run}
-use Rattle.token.specs.Line.{Line, Token}
+use Rattle.token.specs.Line.{Token}
 use Rattle.token.specs.Run.{isComma, isWhitespace, isDots, isHash, isPercent, ofOne, upTo, onward, trim, runOf}
 use Rattle.row.specs.declared.Row.{Row}
 use Rattle.row.specs.Row.{emptyPositional, positional, named, ident, role, option, diagnostic, plain}

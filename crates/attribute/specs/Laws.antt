@@ -1,10 +1,10 @@
 -- Laws of the reading of one attribute: the tail of a cut goes back through the whole reading, without a bound; a cut finds its symbol; and how many
 -- rows there are at most.
-use Prim.Native.Nat.{ℕ, zero, suc, _+_, _*_, _-_, _≤_, _<_}
+use Prim.Native.Nat.{ℕ, zero, suc, _+_, _-_, _≤_, _<_}
 use native.Mathlib.Omega.{arith}
 use mathlib.Core.Bool.{Bool, true, false, cond, not, _&&_, _||_}
 use mathlib.Core.Path.{_≡_, refl, sym, ap, subst, _∙_}
-use mathlib.Core.List.{List, [], _∷_, _++_}
+use mathlib.Core.List.{List, [], _∷_}
 use lib.ListN.{length}
 use Rattle.token.specs.declared.Run.{Run}
 use Rattle.token.specs.Line.{Token}
@@ -14,14 +14,13 @@ use Rattle.row.specs.declared.Row.{Row}
 use Rattle.row.specs.Row.{positional}
 use Rattle.attr_ir.specs.declared.Reading.{Reading}
 use Rattle.attr_ir.specs.declared.Reading.the-variants.{Shorthand, Positional, Named}
-use Rattle.attr_ir.specs.declared.Sight.{Sight}
 use Rattle.attr_ir.specs.declared.Sight.the-variants.{Is, On}
 use Rattle.attr_ir.specs.declared.Name.{Name}
 use Rattle.attr_ir.specs.declared.Name.the-variants as asks
 use Rattle.attr_ir.specs.Look.{isSymbol, isQuote, nextEquals, symbolSight, sight, decided, look}
-use Rattle.attr_ir.specs.Ir.{Ir, named, plain, options, roles, ident, shorthand, nameTokens, lessFirst, lessSpace, value, valueTokens, nameOf, namedIr, keyValueIr, irAs, attrIr}
+use Rattle.attr_ir.specs.Ir.{shorthand, nameTokens, lessFirst, lessSpace, value, valueTokens, nameOf, namedIr, keyValueIr, irAs, attrIr}
 use Rattle.attr_ir.specs.Ir as is
-use Rattle.attribute.specs.Attribute.{Read, rowFirst, oneRow, isStop, Piece, pieces, lastEmpty, shorthandRead, laterGroups, groups, unlessEmpty, groupRows, groupRead, idRead, cutRead, irRead, reading, attributeIn, attribute}
+use Rattle.attribute.specs.Attribute.{Read, rowFirst, oneRow, isStop, Piece, pieces, lastEmpty, shorthandRead, laterGroups, groups, unlessEmpty, groupRows, idRead, cutRead, irRead, reading, attributeIn, attribute}
 
 -- ---- how many tokens are left
 

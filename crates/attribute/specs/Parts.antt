@@ -1,13 +1,12 @@
 -- What calls that write rows answer, and what the search for the next symbol finds.
 use Prim.Native.Nat.{ℕ, _+_, _-_, _≤_, _<_}
-use mathlib.Core.Path.{_≡_, refl, sym, ap, _∙_}
-use mathlib.Core.Bool.{Bool, true, false}
-use mathlib.Core.List.{List, [], _∷_}
+use mathlib.Core.Path.{_≡_}
+use mathlib.Core.Bool.{true}
+use mathlib.Core.List.{List}
 use lib.ListN.{length, getD}
 use Rattle.token.specs.Kind.{attrRef}
-use Rattle.token.specs.Line.{Line, Token, lineOf, tokenAt}
+use Rattle.token.specs.Line.{lineOf, tokenAt}
 use Rattle.token.specs.Kept.{FoundIn}
-use Rattle.row.specs.Row.{withRows}
 use Rattle.row.specs.Laws.{Wrote}
 use Rattle.attribute.specs.declared.Written.{Written}
 use Rattle.attribute.specs.Attribute.{Read, isStop}

@@ -1,5 +1,5 @@
 -- Laws of rows in a lent buffer.
-use Prim.Native.Nat.{ℕ, zero, suc, _+_, _*_, _-_, _≤_, _<_}
+use Prim.Native.Nat.{ℕ, suc, _+_, _*_, _-_}
 use native.Mathlib.Omega.{arith}
 use native.Mathlib.Nat.{suc-add, add-suc, add-zero}
 use mathlib.Core.Path.{_≡_, refl, sym, ap, _∙_}

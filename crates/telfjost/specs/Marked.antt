@@ -1,8 +1,7 @@
 -- Document 01's cases that it marks P, lines and subs texts, in one list, proved by one fact about the definitions.
-use Prim.Native.Nat.{ℕ}
 use mathlib.Core.Bool.{true}
 use mathlib.Core.Path.{_≡_, refl}
-use mathlib.Core.List.{List, [], _∷_, _++_, map}
+use mathlib.Core.List.{List, _++_, map}
 use Rattle.substitutions.specs.declared.SetAnswer.{SetAnswer}
 use Rattle.attr_ir.specs.Ir as attr-ir-ir
 use Rattle.attr_ir.specs.Look as attr-ir-look

@@ -1,18 +1,16 @@
 -- The loops that look for the first kept token of some sort.
-use Prim.Native.Nat.{ℕ, zero, suc, _+_, _-_, _≤_, _<_}
+use Prim.Native.Nat.{ℕ, _+_, _-_, _≤_, _<_}
 use native.Mathlib.Omega.{arith}
-use native.Mathlib.Decide.{decLt}
-use mathlib.Core.Bool.{Bool, true, false, cond, not, _&&_, _||_}
-use mathlib.Core.Path.{_≡_, refl, sym, ap, subst, _∙_}
-use mathlib.Core.List.{List, [], _∷_, _++_}
-use lib.Dec.{eqb, ltb}
-use lib.ListN.{length, getD}
-use borrow.Author.Tests.{eq-eqb, ne-eqb, eqb-true, eqb-false, lt-ltb, le-ltb}
-use Rattle.token.specs.declared.Run.{Run}
-use Rattle.token.specs.Kind.{attrRef, doubleQuote, singleQuote, whitespace}
-use Rattle.token.specs.Line.{Line, Token, lineOf, tokenAt}
-use Rattle.token.specs.Run.{kept, onward, ofKind}
-use Rattle.token.specs.Kept.{FoundIn, none-start, none-skip, none-more, found-here, found-none}
+use mathlib.Core.Bool.{Bool, true, false}
+use mathlib.Core.Path.{_≡_, refl}
+use mathlib.Core.List.{List, []}
+use lib.Dec.{eqb}
+use lib.ListN.{getD}
+use borrow.Author.Tests.{eqb-true, eqb-false}
+use Rattle.token.specs.Kind.{attrRef}
+use Rattle.token.specs.Line.{Token, lineOf, tokenAt}
+use Rattle.token.specs.Run.{kept, onward}
+use Rattle.token.specs.Kept.{none-start, none-skip, none-more, found-here, found-none}
 use Rattle.token.specs.Parts.{FoundAt}
 
 -- none was found below i

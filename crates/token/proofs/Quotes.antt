@@ -1,17 +1,15 @@
 -- Quotes round a run.
-use Prim.Native.Nat.{ℕ, zero, suc, _+_, _-_, _≤_, _<_}
+use Prim.Native.Nat.{ℕ, _+_, _-_, _≤_, _<_}
 use native.Mathlib.Omega.{arith}
-use native.Mathlib.Decide.{decLt}
-use mathlib.Core.Bool.{Bool, true, false, cond, not, _&&_, _||_}
-use mathlib.Core.Path.{_≡_, refl, sym, ap, subst, _∙_}
-use mathlib.Core.List.{List, [], _∷_, _++_}
-use lib.Dec.{eqb, ltb}
-use lib.ListN.{length, getD}
-use borrow.Author.Tests.{eq-eqb, ne-eqb, eqb-true, eqb-false, lt-ltb, le-ltb}
+use mathlib.Core.Bool.{Bool, true, false, not, _||_}
+use mathlib.Core.Path.{_≡_, refl, sym, ap, _∙_}
+use mathlib.Core.List.{List, []}
+use lib.Dec.{eqb}
+use lib.ListN.{getD}
 use Rattle.token.specs.declared.Run.{Run}
-use Rattle.token.specs.Kind.{attrRef, doubleQuote, singleQuote, whitespace}
-use Rattle.token.specs.Line.{Line, Token, lineOf, tokenAt}
-use Rattle.token.specs.Run.{kept, ofKind, bothQuotes, quoted, unquote, run, runOf, inRun}
+use Rattle.token.specs.Kind.{doubleQuote, singleQuote}
+use Rattle.token.specs.Line.{Line, lineOf}
+use Rattle.token.specs.Run.{kept, quoted, unquote, run, runOf, inRun}
 use Rattle.token.specs.Kept.{Ends, kind-is, is-kind, not-kind, quoted-long, quoted-short, quoted-room, unquote-ends, unquote-plain}
 use Rattle.token.specs.Parts.{all, Part}
 

@@ -2,17 +2,17 @@
 use Prim.Native.Nat.{ℕ, zero, suc, _+_, _-_, _≤_, _<_}
 use native.Mathlib.Omega.{arith}
 use native.Mathlib.Decide.{decLt}
-use mathlib.Core.Bool.{Bool, true, false, cond, not, _&&_, _||_}
+use mathlib.Core.Bool.{Bool, true, false}
 use mathlib.Core.Path.{_≡_, refl, sym, ap, subst, _∙_}
-use mathlib.Core.List.{List, [], _∷_, _++_}
-use lib.Dec.{eqb, ltb}
-use lib.ListN.{length, getD}
-use borrow.Author.Tests.{eq-eqb, ne-eqb, eqb-true, eqb-false, lt-ltb, le-ltb}
+use mathlib.Core.List.{List, []}
+use lib.Dec.{eqb}
+use lib.ListN.{getD}
+use borrow.Author.Tests.{eqb-true, eqb-false, lt-ltb, le-ltb}
 use Rattle.token.specs.declared.Run.{Run}
-use Rattle.token.specs.Kind.{attrRef, doubleQuote, singleQuote, whitespace}
-use Rattle.token.specs.Line.{Line, Token, lineOf, tokenAt}
-use Rattle.token.specs.Run.{kept, trimStart, trimEnd, trim, run, emptyRun, runOf, inRun, firstPlace, between}
-use Rattle.token.specs.Kept.{Ends, is-kind, not-kind, kept-none, kept-first, kept-skip, kept-last, kept-last-skip, trimStart-space, trimStart-stop, trimStart-none, trimEnd-space, trimEnd-stop, trimEnd-none}
+use Rattle.token.specs.Kind.{attrRef, whitespace}
+use Rattle.token.specs.Line.{Token, lineOf, tokenAt}
+use Rattle.token.specs.Run.{kept, trimStart, trimEnd, trim, run, emptyRun, runOf, firstPlace, between}
+use Rattle.token.specs.Kept.{Ends, is-kind, not-kind, kept-none, kept-first, kept-skip, kept-last, kept-last-skip, trimStart-space, trimStart-stop, trimEnd-space, trimEnd-stop}
 use Rattle.token.specs.Parts.{all, Narrowed, StartsAt, EndsAt, Part, starts-place, run-here, run-empty}
 
 -- ---- from the left: what is left of from..to at i has the same f

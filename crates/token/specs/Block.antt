@@ -1,6 +1,6 @@
 -- The answer of `is_block_attr_list`: "uses 1 to 6, then yes or no".
 use Prim.Native.Nat.{ℕ}
-use mathlib.Core.Bool.{Bool, true, false, cond}
+use mathlib.Core.Bool.{cond}
 use lib.Dec.{eqb}
 use Rattle.token.specs.declared.BlockLine.{BlockLine}
 use Rattle.token.specs.declared.BlockLine.the-variants.{Refused, Is}

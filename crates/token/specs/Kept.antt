@@ -1,18 +1,17 @@
 -- Places and the list of the tokens kept there: by these laws code on places meets definitions on lists.
-use Prim.Native.Nat.{ℕ, zero, suc, _+_, _-_, _*_, _≤_, _<_}
+use Prim.Native.Nat.{ℕ, zero, suc, _+_, _-_, _≤_, _<_}
 use native.Mathlib.Omega.{arith}
 use native.Mathlib.Numerals.{add-one}
 use native.Mathlib.Nat.{add-suc, suc-add, add-zero, zero-add}
-use mathlib.Core.Bool.{Bool, true, false, cond, not, _&&_, _||_}
+use mathlib.Core.Bool.{Bool, true, false, cond}
 use mathlib.Core.Path.{_≡_, refl, sym, ap, subst, _∙_}
-use mathlib.Core.List.{List, [], _∷_, _++_, append-assoc, append-nil}
+use mathlib.Core.List.{List, [], _∷_, _++_, append-nil}
 use lib.Dec.{eqb}
-use lib.ListN.{length, getD, take, drop}
+use lib.ListN.{getD}
 use borrow.Author.Tests.{eq-eqb, ne-eqb}
-use Rattle.token.specs.declared.Run.{Run}
 use Rattle.token.specs.Kind.{attrRef}
 use Rattle.token.specs.Line.{Line, Token, tokenAt, tokens}
-use Rattle.token.specs.Run.{ofKind, isAttrRef, isWhitespace, without, upTo, onward, lastOf, front, kept, trimStart, leave, trimEnd, trim, bothQuotes, quoted, inside, unquote, run, emptyRun, runOf, inRun, firstPlace, pastLast}
+use Rattle.token.specs.Run.{ofKind, isAttrRef, isWhitespace, without, upTo, onward, lastOf, front, kept, trimStart, leave, trimEnd, trim, bothQuotes, quoted, inside, unquote, run, emptyRun, runOf}
 
 -- ---- lists of tokens
 

@@ -1,8 +1,8 @@
 -- The line as it is lent, its tokens, and the checks of it (document 01, "The line, the rows, the set", "Where a call is turned away").
 use Prim.Native.Nat.{ℕ, zero, suc, _+_, _-_, _*_}
-use mathlib.Core.Bool.{Bool, true, false, cond, not, _&&_, _||_}
+use mathlib.Core.Bool.{Bool, true, false, not, _&&_, _||_}
 use mathlib.Core.List.{List, [], _∷_}
-use lib.Dec.{eqb, leb, ltb}
+use lib.Dec.{eqb, ltb}
 use lib.ListN.{length, getD, take, drop}
 use Rattle.token.specs.Kind.{largest, backslash, closeBracket, openBracket}
 

@@ -2,15 +2,15 @@
 use Prim.Native.Nat.{ℕ, zero, suc, _+_, _-_, _*_, _≤_, _<_}
 use native.Mathlib.Omega.{arith}
 use native.Mathlib.Numerals.{add-one}
-use mathlib.Core.Bool.{Bool, true, false, cond, not, _&&_, _||_}
-use mathlib.Core.Path.{_≡_, refl, sym, ap, subst, _∙_}
+use mathlib.Core.Bool.{Bool, true, false, not, _&&_, _||_}
+use mathlib.Core.Path.{_≡_, refl, sym, subst}
 use mathlib.Core.List.{List, [], _∷_}
 use lib.Dec.{eqb, ltb}
-use lib.ListN.{length, getD, take, drop, drop-of-length-le}
+use lib.ListN.{length, getD, drop, drop-of-length-le}
 use lib.Seq.{drop-cons}
-use borrow.Author.Tests.{eq-eqb, ne-eqb, eqb-true, eqb-false, lt-ltb, le-ltb, ltb-true, ltb-false}
+use borrow.Author.Tests.{ne-eqb, eqb-true, eqb-false, lt-ltb, le-ltb, ltb-true, ltb-false}
 use Rattle.token.specs.Kind.{largest, closeBracket, openBracket}
-use Rattle.token.specs.Line.{Line, lineOf, offsetAt, lengthAt, mostTokens, mostBytes, someOver, misplaced, check, refusal, fromEnd, isBlockAttrList}
+use Rattle.token.specs.Line.{lineOf, mostTokens, mostBytes, someOver, misplaced, check, refusal, isBlockAttrList}
 
 -- ---- 5 and 6 in words
 

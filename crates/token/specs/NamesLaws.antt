@@ -1,14 +1,13 @@
 -- Laws of lexemes and names.
-use Prim.Native.Nat.{ℕ, zero, suc, _+_, _*_, _-_, _≤_, _<_}
+use Prim.Native.Nat.{ℕ, _+_, _*_, _-_, _<_}
 use native.Mathlib.Omega.{arith}
-use mathlib.Core.Bool.{Bool, true, false, cond, not, _&&_, _||_, and-true, and-false, and-assoc}
+use mathlib.Core.Bool.{Bool, false, _&&_, and-true, and-false, and-assoc}
 use mathlib.Core.Path.{_≡_, refl, sym, ap, _∙_}
 use mathlib.Core.List.{List, [], _∷_, _++_}
 use lib.Dec.{eqb, eqb·suc-zero}
-use lib.ListN.{length, getD, take, drop, length-take, length-drop}
+use lib.ListN.{length, getD, drop, length-take, length-drop}
 use lib.Seq.{drop-cons}
-use borrow.Author.Tests.{eq-eqb, ne-eqb}
-use Rattle.token.specs.Line.{Line, Token, lineOf, tokenAt}
+use Rattle.token.specs.Line.{Line, lineOf, tokenAt}
 use Rattle.token.specs.LineLaws.{Lent}
 use Rattle.token.specs.Run.{ofOne}
 use Rattle.token.specs.Names.{sameBytes, prefix}

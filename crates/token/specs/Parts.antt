@@ -1,15 +1,15 @@
 -- What a caller may use of an answer about places from..to: where its tokens stand, and that they are f of the tokens kept from..to, whatever the
 -- line's text. The answers themselves are equations in the contracts; these follow from them.
-use Prim.Native.Nat.{ℕ, zero, suc, _+_, _-_, _≤_, _<_}
+use Prim.Native.Nat.{ℕ, _+_, _-_, _≤_, _<_}
 use native.Mathlib.Omega.{arith}
 use native.Mathlib.Decide.{decLt}
-use mathlib.Core.Path.{_≡_, refl, sym, ap, subst, _∙_}
-use mathlib.Core.Bool.{Bool, true, false}
-use mathlib.Core.List.{List, [], _∷_, _++_}
-use lib.ListN.{length, getD}
+use mathlib.Core.Path.{_≡_, sym, ap, _∙_}
+use mathlib.Core.Bool.{Bool}
+use mathlib.Core.List.{List}
+use lib.ListN.{getD}
 use Rattle.token.specs.declared.Run.{Run}
 use Rattle.token.specs.Kind.{attrRef}
-use Rattle.token.specs.Line.{Line, Token, lineOf, tokenAt}
+use Rattle.token.specs.Line.{Line, Token, lineOf}
 use Rattle.token.specs.Run.{kept, onward, run, emptyRun, runOf, inRun, firstPlace}
 use Rattle.token.specs.Kept.{Ends, FoundIn, kept-none, kept-first, place-is, run-ends, run-none}
 

@@ -1,10 +1,9 @@
 -- Kept tokens and runs (document 01, "Tokens and runs").
-use Prim.Native.Nat.{ℕ, zero, suc, _+_, _-_, _*_}
-use mathlib.Core.Bool.{Bool, true, false, cond, not, _&&_, _||_}
-use mathlib.Core.List.{List, [], _∷_, _++_}
+use Prim.Native.Nat.{ℕ, suc, _+_, _-_}
+use mathlib.Core.Bool.{Bool, false, cond, not, _&&_, _||_}
+use mathlib.Core.List.{List, [], _∷_}
 use lib.Dec.{eqb, ltb}
 use lib.ListN.{length}
-use Rattle.token.specs.declared.TokenPlace.{TokenPlace}
 use Rattle.token.specs.declared.Run.{Run}
 use Rattle.token.specs.Kind.{attrRef, comma, doubleQuote, dots, equalSigns, hash, percent, singleQuote, whitespace}
 use Rattle.token.specs.Line.{Line, Token, tokens}

@@ -7,15 +7,12 @@ use borrow.Author.Tests.{not-true, not-false}
 use Rattle.attr_ir.proofs.to_cut.Statement.{statement}
 use Rattle.attr_ir.proofs.to_cut.Tie as tie
 
--- src/lib.rt:61:9
 returns : tie.Need-returns
 returns c = λ text pairs. rw (not-true (c .before .before .args .asked) (c .if1 .taken)) refl
 
--- src/lib.rt:63:6
 quoted-requires : tie.Need-quoted-requires
 quoted-requires c κs = search needs
 
--- src/lib.rt:56:1
 returns-2 : tie.Need-returns-2
 returns-2 c = λ text pairs. rw (not-false (c .before .before .before .args .asked) (c .before .if1 .left)) (ap not (c .quoted .ensures text pairs))
 

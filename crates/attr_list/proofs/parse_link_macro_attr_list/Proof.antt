@@ -1,15 +1,9 @@
 -- The link entry: 1 to 7, then what the brackets hold; demand 3 holds of every reading. Assumes nothing.
 use borrow.Author.Needs.{needs}
-use Prim.Native.Nat.{ℕ, zero, suc, _+_, _*_, _-_, _≤_, _<_}
+use Prim.Native.Nat.{_-_}
 use native.Mathlib.Omega.{arith}
-use native.Mathlib.Numerals.{add-one}
-use mathlib.Core.Bool.{Bool, true, false, cond, not, _&&_, _||_}
-use mathlib.Core.Path.{_≡_, refl, sym, ap, subst, _∙_}
-use mathlib.Core.Logic.{⊎-elim}
-use mathlib.Core.List.{List, [], _∷_, _++_}
-use lib.Dec.{eqb}
-use lib.ListN.{length, getD, take, drop, set, length-set}
-use borrow.Author.Tests.{eq-eqb, ne-eqb, lt-ltb, le-ltb, le-leb, lt-leb}
+use mathlib.Core.Path.{sym, _∙_}
+use lib.ListN.{length}
 use Rattle.token.specs.Line.{lineOf, mostTokens}
 use Rattle.attr_list.specs.Reading.{reading}
 use Rattle.attr_list.specs.Entry.{Link}
@@ -17,28 +11,19 @@ use Rattle.attr_list.proofs.Entries.{entry-list}
 use Rattle.attr_list.proofs.Readings.{gives-as, gives-refused, read-away, read-gives, read-lent, read-room}
 use Rattle.attr_list.proofs.parse_link_macro_attr_list.Statement.{statement}
 use Rattle.attr_list.proofs.parse_link_macro_attr_list.Tie as tie
-use Rattle.attr_list.proofs.parse_link_macro_attr_list.Reads as reads
-use Rattle.attr_list.proofs.parse_link_macro_attr_list.Lts as lts
-use Rattle.attr_list.proofs.read.read_link.Reads as read-link-reads
-use Rattle.attr_list.proofs.read.turned_away.Reads as turned-away-reads
 
--- src/lib.rt:88:9
 turned-away-requires : tie.Need-turned-away-requires
 turned-away-requires c κs = search needs
 
--- src/lib.rt:90:9
 returns : tie.Need-returns
 returns c = let w = gives-as (c .before .before .before .before .before .before .args .rows .now) _ _ _ (c .before .before .before .before .before .before .args .rows .now) (gives-refused (c .before .before .before .before .before .before .args .rows .now) (c .before .turned-away .result)) (read-away mostTokens (lineOf (c .before .before .before .before .before .before .args .kinds .now) (c .before .before .before .before .before .before .args .text .now) (c .before .before .before .before .before .before .args .pairs .now)) (length (c .before .before .before .before .before .before .args .rows .now)) Link (c .before .turned-away .result) (c .before .turned-away .ensures) (c .if1 .taken)) in (w .answers, (w .leaves, entry-list mostTokens Link (lineOf (c .before .before .before .before .before .before .args .kinds .now) (c .before .before .before .before .before .before .args .text .now) (c .before .before .before .before .before .before .args .pairs .now)) (c .before .before .before .before .before .before .args .rows .now) _ _ (w .answers) (w .leaves)))
 
--- src/lib.rt:92:5
 read-link-requires : tie.Need-read-link-requires
 read-link-requires c κs = (read-lent mostTokens (c .before .before .before .before .before .before .before .args .kinds .now) (c .before .before .before .before .before .before .before .args .text .now) (c .before .before .before .before .before .before .before .args .pairs .now) (length (c .before .before .before .before .before .before .before .args .rows .now)) (omega arith) (sym (c .before .if1 .left) ∙ c .before .before .turned-away .ensures), read-room mostTokens (c .before .before .before .before .before .before .before .args .kinds .now) (c .before .before .before .before .before .before .before .args .text .now) (c .before .before .before .before .before .before .before .args .pairs .now) (length (c .before .before .before .before .before .before .before .args .rows .now)) (omega arith) (sym (c .before .if1 .left) ∙ c .before .before .turned-away .ensures))
 
--- src/lib.rt:78:1
 same-length : tie.Need-same-length
 same-length c = search needs
 
--- src/lib.rt:78:1
 returns-2 : tie.Need-returns-2
 returns-2 c = let w = read-gives mostTokens Link (lineOf (c .before .before .before .before .before .before .before .before .before .before .args .kinds .now) (c .before .before .before .before .before .before .before .before .before .before .args .text .now) (c .before .before .before .before .before .before .before .before .before .before .args .pairs .now)) (c .before .before .before .before .before .before .before .before .before .before .args .rows .now) (sym (c .before .before .before .before .if1 .left) ∙ c .before .before .before .before .before .turned-away .ensures) (c .before .before .read-link .result) _ (c .before .before .read-link .ensures .0) (c .before .before .read-link .ensures .1) in (w .answers, (w .leaves, entry-list mostTokens Link (lineOf (c .before .before .before .before .before .before .before .before .before .before .args .kinds .now) (c .before .before .before .before .before .before .before .before .before .before .args .text .now) (c .before .before .before .before .before .before .before .before .before .before .args .pairs .now)) (c .before .before .before .before .before .before .before .before .before .before .args .rows .now) _ _ (w .answers) (w .leaves)))
 

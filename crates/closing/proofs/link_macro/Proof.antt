@@ -1,24 +1,15 @@
 -- `link_macro` gives what the look at all tokens but the last decides. The loop keeps that the look from the next token on, with what has been
 -- seen, gives the same. Assumes nothing.
 use borrow.Author.Needs.{needs}
-use Prim.Native.Nat.{ℕ, zero, suc, _+_, _*_, _-_, _≤_, _<_}
+use Prim.Native.Nat.{ℕ, _+_, _-_, _<_}
 use native.Mathlib.Omega.{arith}
-use native.Mathlib.Numerals.{add-one}
-use mathlib.Core.Bool.{Bool, true, false, cond, not, _&&_, _||_}
-use mathlib.Core.Path.{_≡_, refl, sym, ap, subst, _∙_}
-use mathlib.Core.Logic.{⊎-elim}
-use mathlib.Core.List.{List, [], _∷_, _++_}
+use mathlib.Core.Path.{_≡_, sym, ap, _∙_}
 use lib.Dec.{eqb}
-use lib.ListN.{length, getD, take, drop, set, length-set}
-use borrow.Author.Tests.{eq-eqb, ne-eqb, lt-ltb, le-ltb, le-leb, lt-leb}
+use lib.ListN.{length}
 use Rattle.closing.specs.LinkLaws.{onFrom, look-start, look-list, look-text, look-on, look-end}
 use Rattle.closing.specs.Link.{linkMacro}
 use Rattle.closing.proofs.link_macro.Statement.{statement}
 use Rattle.closing.proofs.link_macro.Tie as tie
-use Rattle.closing.proofs.link_macro.Reads as reads
-use Rattle.closing.proofs.link_macro.Lts as lts
-use Rattle.closing.proofs.look.turn_at.Reads as turn-at-reads
-use Rattle.token.proofs.line.length_of.Reads as length-of-reads
 
 abbrev Inv-loop : tie.InvT-loop
 Inv-loop kinds pairs seen₀ i₀ seen i = (i < length kinds + 1) × (onFrom kinds pairs seen i ≡ linkMacro kinds pairs)
@@ -26,59 +17,45 @@ Inv-loop kinds pairs seen₀ i₀ seen i = (i < length kinds + 1) × (onFrom kin
 abbrev μ-loop : tie.MeasureT-loop
 μ-loop kinds pairs seen₀ i₀ seen i = length kinds - i
 
--- src/lib.rt:72:5
 loop-holds : tie.Need-loop-holds Inv-loop μ-loop
 loop-holds c = (omega arith, look-start (c .before .before .args .kinds .now) (c .before .before .args .pairs .now))
 
--- src/lib.rt:72:11
 add-loop : tie.Need-add-loop Inv-loop μ-loop
 add-loop c = omega arith
 
--- src/lib.rt:73:19
 length-of-requires : tie.Need-length-of-requires Inv-loop μ-loop
 length-of-requires c κs = omega arith
 
--- src/lib.rt:74:40
 shared-slice-read-turn-at : tie.Need-shared-slice-read-turn-at Inv-loop μ-loop
 shared-slice-read-turn-at c = omega arith
 
--- src/lib.rt:74:13
 turn-at-requires : tie.Need-turn-at-requires Inv-loop μ-loop
 turn-at-requires c κs = search needs
 
--- src/lib.rt:76:35
 enum-told : tie.Need-enum-told Inv-loop μ-loop
 enum-told c = c .match .keys1
 
--- src/lib.rt:76:35
 returns : tie.Need-returns Inv-loop μ-loop
 returns c = look-list (c .before .before .before .before .before .before .before .before .before .args .kinds .now) (c .before .before .before .before .before .before .before .before .before .args .pairs .now) (c .before .before .before .before .before .before .loop .seen) (c .before .before .before .before .before .before .loop .i) (c .before .before .before .before .before .loop-test .taken) _ (ap (λ (n : ℕ). eqb n 1) (c .before .before .before .before .length-of .ensures)) (sym (c .enum-told .given .1) ∙ c .before .before .turn-at .ensures) ∙ c .before .before .before .before .before .before .loop .inv .1
 
--- src/lib.rt:77:60
 enum-told-2 : tie.Need-enum-told-2 Inv-loop μ-loop
 enum-told-2 c = c .match .keys2
 
--- src/lib.rt:77:35
 returns-2 : tie.Need-returns-2 Inv-loop μ-loop
 returns-2 c = look-text (c .before .before .before .before .before .before .before .before .before .args .kinds .now) (c .before .before .before .before .before .before .before .before .before .args .pairs .now) (c .before .before .before .before .before .before .loop .seen) (c .before .before .before .before .before .before .loop .i) (c .before .before .before .before .before .loop-test .taken) _ (ap (λ (n : ℕ). eqb n 1) (c .before .before .before .before .length-of .ensures)) (sym (c .enum-told2 .given .1) ∙ c .before .before .turn-at .ensures) ∙ c .before .before .before .before .before .before .loop .inv .1
 
--- src/lib.rt:78:28
 enum-known-turn : tie.Need-enum-known-turn Inv-loop μ-loop
 enum-known-turn c = c .match .keys3
 
--- src/lib.rt:80:17
 add-i : tie.Need-add-i Inv-loop μ-loop
 add-i c = omega arith
 
--- src/lib.rt:72:5
 loop-less : tie.Need-loop-less Inv-loop μ-loop
 loop-less c = omega arith
 
--- src/lib.rt:72:5
 loop-again : tie.Need-loop-again Inv-loop μ-loop
 loop-again c = (omega arith, look-on (c .before .before .before .before .before .before .before .before .before .before .args .kinds .now) (c .before .before .before .before .before .before .before .before .before .before .args .pairs .now) (c .before .before .before .before .before .before .before .loop .seen) (c .before .before .before .before .before .before .before .loop .i) (c .before .before .before .before .before .before .loop-test .taken) _ (ap (λ (n : ℕ). eqb n 1) (c .before .before .before .before .before .length-of .ensures)) (c .before .turn .given .0 .0) (sym (c .before .turn .given .1) ∙ c .before .before .before .turn-at .ensures) ∙ c .before .before .before .before .before .before .before .loop .inv .1)
 
--- src/lib.rt:62:1
 returns-3 : tie.Need-returns-3 Inv-loop μ-loop
 returns-3 c = look-end (c .before .before .before .before .args .kinds .now) (c .before .before .before .before .args .pairs .now) (c .before .loop .seen) (c .before .loop .i) (c .loop-test .left) ∙ c .before .loop .inv .1
 

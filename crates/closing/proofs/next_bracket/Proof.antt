@@ -1,22 +1,15 @@
 -- `next_bracket` gives the definition's bracket. The loop keeps that what is left to look at gives the same: a token that does not close is passed
 -- over. Assumes nothing.
-use borrow.Author.Needs.{needs}
-use Prim.Native.Nat.{ℕ, zero, suc, _+_, _*_, _-_, _≤_, _<_}
+use Prim.Native.Nat.{_-_, _≤_, _<_}
 use native.Mathlib.Omega.{arith}
-use native.Mathlib.Numerals.{add-one}
-use mathlib.Core.Bool.{Bool, true, false, cond, not, _&&_, _||_}
-use mathlib.Core.Path.{_≡_, refl, sym, ap, subst, _∙_}
+use mathlib.Core.Bool.{not}
+use mathlib.Core.Path.{_≡_, _∙_}
 use mathlib.Core.Logic.{⊎-elim}
-use mathlib.Core.List.{List, [], _∷_, _++_}
-use lib.Dec.{eqb}
-use lib.ListN.{length, getD, take, drop, set, length-set}
-use borrow.Author.Tests.{eq-eqb, ne-eqb, lt-ltb, le-ltb, le-leb, lt-leb}
+use lib.ListN.{length}
 use Rattle.closing.specs.Laws.{onFrom, next-first, next-after, next-here, next-on, next-end}
 use Rattle.closing.specs.Closing.{nextBracket}
 use Rattle.closing.proofs.next_bracket.Statement.{statement}
 use Rattle.closing.proofs.next_bracket.Tie as tie
-use Rattle.closing.proofs.next_bracket.Reads as reads
-use Rattle.closing.proofs.next_bracket.Lts as lts
 
 abbrev Inv-loop : tie.InvT-loop
 Inv-loop kinds start i₀ i = (start < i) × (i ≤ length kinds) × (onFrom kinds i ≡ nextBracket kinds start)
@@ -24,51 +17,39 @@ Inv-loop kinds start i₀ i = (start < i) × (i ≤ length kinds) × (onFrom kin
 abbrev μ-loop : tie.MeasureT-loop
 μ-loop kinds start i₀ i = length kinds - i
 
--- src/lib.rt:46:8
 shared-slice-read-if1 : tie.Need-shared-slice-read-if1 Inv-loop μ-loop
 shared-slice-read-if1 c = omega arith
 
--- src/lib.rt:47:9
 returns : tie.Need-returns Inv-loop μ-loop
 returns c = next-first (c .before .before .args .kinds .now) (c .before .before .args .from .0) (c .if1 .taken)
 
--- src/lib.rt:49:17
 add-i : tie.Need-add-i Inv-loop μ-loop
 add-i c = omega arith
 
--- src/lib.rt:50:5
 loop-holds : tie.Need-loop-holds Inv-loop μ-loop
 loop-holds c = (omega arith, omega arith, next-after (c .before .before .args .kinds .now) (c .before .before .args .from .0) (c .if1 .left))
 
--- src/lib.rt:51:12
 shared-slice-read-if2 : tie.Need-shared-slice-read-if2 Inv-loop μ-loop
 shared-slice-read-if2 c = omega arith
 
--- src/lib.rt:52:22
 sub-if3 : tie.Need-sub-if3 Inv-loop μ-loop
 sub-if3 c = omega arith
 
--- src/lib.rt:52:16
 shared-slice-read-if3 : tie.Need-shared-slice-read-if3 Inv-loop μ-loop
 shared-slice-read-if3 c = omega arith
 
--- src/lib.rt:53:17
 returns-2 : tie.Need-returns-2 Inv-loop μ-loop
 returns-2 c = next-here (c .before .before .before .before .before .before .before .before .args .kinds .now) (c .before .before .before .before .before .loop .i) (c .before .before .before .before .loop-test .taken) (c .before .before .if2 .taken) (c .if3 .taken) ∙ c .before .before .before .before .before .loop .inv .2
 
--- src/lib.rt:56:9
 add-i-2 : tie.Need-add-i-2 Inv-loop μ-loop
 add-i-2 c = omega arith
 
--- src/lib.rt:50:5
 loop-less : tie.Need-loop-less Inv-loop μ-loop
 loop-less c = omega arith
 
--- src/lib.rt:50:5
 loop-again : tie.Need-loop-again Inv-loop μ-loop
 loop-again c = (omega arith, omega arith, next-on (c .before .before .before .before .before .before .args .kinds .now) (c .before .before .before .loop .i) (c .before .before .loop-test .taken) (⊎-elim (λ w e. w .2 .left) (λ w e. absurd (w .left e)) (c .if2 .came)) ∙ c .before .before .before .loop .inv .2)
 
--- src/lib.rt:41:1
 returns-3 : tie.Need-returns-3 Inv-loop μ-loop
 returns-3 c = next-end (c .before .before .before .before .args .kinds .now) (c .before .loop .i) (c .loop-test .left) ∙ c .before .loop .inv .2
 

@@ -14,8 +14,6 @@ use Rattle.delimiters.specs.Stored.{storedAfter}
 use Rattle.delimiters.proofs.Turns.{notes, Going, going-start, stored-start, Due, due-less, due-done, Arm, arm-moved, arm-comma, arm-first, arm-second, arm-other, found}
 use Rattle.delimiters.proofs.find_delimiters.Statement.{statement}
 use Rattle.delimiters.proofs.find_delimiters.Tie as tie
-use Rattle.delimiters.proofs.find_delimiters.Reads as reads
-use Rattle.delimiters.proofs.find_delimiters.Lts as lts
 
 abbrev Inv-loop : tie.InvT-loop
 Inv-loop kinds commas stretches₀ double single i remain stretches = Due (after kinds (suc i)) commas stretches (notes double single) i remain

@@ -1,9 +1,8 @@
 -- `attr_rows` writes what `parse_attr` does: an attribute of no tokens is one row of tag 1, one of one Word a row of tag 2. Assumes nothing.
 use borrow.Author.Needs.{needs}
-use Prim.Native.Nat.{_+_, _*_, _-_, _≤_}
+use Prim.Native.Nat.{_-_}
 use native.Mathlib.Omega.{arith}
 use mathlib.Core.Path.{sym, subst, _∙_}
-use lib.ListN.{length}
 use Rattle.token.specs.Line.{lineOf}
 use Rattle.row.specs.Row.{Fits}
 use Rattle.attribute.proofs.Whole.{all-told}
@@ -11,51 +10,39 @@ use Rattle.attr_list.proofs.Attributes.{none-row, word-row}
 use Rattle.attr_list.proofs.list.attr_rows.Statement.{statement}
 use Rattle.attr_list.proofs.list.attr_rows.Tie as tie
 
--- src/list.rt:87:34
 one-run-requires : tie.Need-one-run-requires
 one-run-requires c κs = search needs
 
--- src/list.rt:87:9
 put-one-requires : tie.Need-put-one-requires
 put-one-requires c κs = (omega (arith, c .before .before .before .before .before .before .before .before .before .pre .1 .2), subst Fits (sym (c .one-run .ensures)) (record { first-place = omega arith; first-count = omega arith; second-place = omega arith; second-count = omega arith }))
 
--- src/list.rt:87:9
 same-length : tie.Need-same-length
 same-length c = search needs
 
--- src/list.rt:87:9
 returns : tie.Need-returns
 returns c = all-told _ (c .before .before .before .before .before .before .before .before .before .before .before .before .args .at) _ _ _ _ _ (c .before .before .put-one .ensures) (none-row (c .before .before .before .before .before .before .before .before .before .before .before .before .args .block) (c .before .before .before .before .before .before .before .before .before .before .before .before .args .has) (lineOf (c .before .before .before .before .before .before .before .before .before .before .before .before .args .kinds .now) (c .before .before .before .before .before .before .before .before .before .before .before .before .args .text .now) (c .before .before .before .before .before .before .before .before .before .before .before .before .args .pairs .now)) (c .before .before .before .before .before .before .before .before .before .before .before .before .args .from .0) (c .before .before .before .before .before .before .before .before .before .before .before .before .args .to .0) (c .before .before .before .before .before .if1 .taken) _ (c .before .before .before .one-run .ensures)) (omega (arith, c .before .before .put-one .ensures .wrote .count))
 
--- src/list.rt:89:8
 one-word-requires : tie.Need-one-word-requires
 one-word-requires c κs = search needs
 
--- src/list.rt:94:34
 one-run-requires-2 : tie.Need-one-run-requires-2
 one-run-requires-2 c κs = search needs
 
--- src/list.rt:94:9
 put-one-requires-2 : tie.Need-put-one-requires-2
 put-one-requires-2 c κs = (omega (arith, c .before .before .before .before .before .before .before .before .before .before .before .pre .1 .2), subst Fits (sym (c .one-run2 .ensures)) (record { first-place = omega (arith, c .before .before .before .before .before .before .before .before .before .before .before .pre .0 .few, c .before .before .before .before .before .before .before .before .before .before .before .pre .1 .0, c .before .before .before .before .before .before .before .before .before .before .before .pre .1 .1); first-count = omega arith; second-place = omega arith; second-count = omega arith }))
 
--- src/list.rt:94:9
 same-length-2 : tie.Need-same-length-2
 same-length-2 c = search needs
 
--- src/list.rt:94:9
 returns-2 : tie.Need-returns-2
 returns-2 c = all-told _ (c .before .before .before .before .before .before .before .before .before .before .before .before .before .before .args .at) _ _ _ _ _ (c .before .before .put-one2 .ensures) (word-row (c .before .before .before .before .before .before .before .before .before .before .before .before .before .before .args .block) (c .before .before .before .before .before .before .before .before .before .before .before .before .before .before .args .has) (lineOf (c .before .before .before .before .before .before .before .before .before .before .before .before .before .before .args .kinds .now) (c .before .before .before .before .before .before .before .before .before .before .before .before .before .before .args .text .now) (c .before .before .before .before .before .before .before .before .before .before .before .before .before .before .args .pairs .now)) (c .before .before .before .before .before .before .before .before .before .before .before .before .before .before .args .from .0) (c .before .before .before .before .before .before .before .before .before .before .before .before .before .before .args .to .0) (sym (c .before .before .before .before .before .before .one-word .ensures) ∙ c .before .before .before .before .before .if2 .taken) _ (c .before .before .before .one-run2 .ensures)) (omega (arith, c .before .before .put-one2 .ensures .wrote .count))
 
--- src/list.rt:96:5
 parse-attr-requires : tie.Need-parse-attr-requires
 parse-attr-requires c κs = search needs
 
--- src/list.rt:65:1
 same-length-3 : tie.Need-same-length-3
 same-length-3 c = search needs
 
--- src/list.rt:65:1
 returns-3 : tie.Need-returns-3
 returns-3 c = search needs
 

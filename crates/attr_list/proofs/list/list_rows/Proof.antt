@@ -1,25 +1,15 @@
 -- `list_rows` writes the rows of the attributes, first to last. The loop keeps that the rows written and the rows of the attributes left make the
 -- list's rows, and that there are no more of them than tokens passed. Assumes nothing.
 use borrow.Author.Needs.{needs}
-use Prim.Native.Nat.{ℕ, zero, suc, _+_, _*_, _-_, _≤_, _<_}
+use Prim.Native.Nat.{_-_}
 use native.Mathlib.Omega.{arith}
-use native.Mathlib.Numerals.{add-one}
-use mathlib.Core.Bool.{Bool, true, false, cond, not, _&&_, _||_}
-use mathlib.Core.Path.{_≡_, refl, sym, ap, subst, _∙_}
-use mathlib.Core.Logic.{⊎-elim}
-use mathlib.Core.List.{List, [], _∷_, _++_}
-use lib.Dec.{eqb}
-use lib.ListN.{length, getD, take, drop, set, length-set}
-use borrow.Author.Tests.{eq-eqb, ne-eqb, lt-ltb, le-ltb, le-leb, lt-leb}
+use mathlib.Core.Path.{_∙_}
+use lib.ListN.{length, take}
 use Rattle.attr_list.proofs.Attributes.{comma-room, end-room, next, last}
 use Rattle.attr_list.specs.Laws.{Listing, listing-start}
 use Rattle.token.specs.Line.{lineOf}
 use Rattle.attr_list.proofs.list.list_rows.Statement.{statement}
 use Rattle.attr_list.proofs.list.list_rows.Tie as tie
-use Rattle.attr_list.proofs.list.list_rows.Reads as reads
-use Rattle.attr_list.proofs.list.list_rows.Lts as lts
-use Rattle.attr_list.proofs.list.wide.Reads as wide-reads
-use Rattle.attr_list.proofs.list.attr_rows.Reads as attr-rows-reads
 
 abbrev Inv-loop : tie.InvT-loop
 Inv-loop kinds text pairs commas n end block rows₀ from₀ at₀ id₀ j₀ rows from at id j = Listing (lineOf kinds text pairs) (take n commas) (end .0) block rows₀ rows from at id j
@@ -27,51 +17,39 @@ Inv-loop kinds text pairs commas n end block rows₀ from₀ at₀ id₀ j₀ ro
 abbrev μ-loop : tie.MeasureT-loop
 μ-loop kinds text pairs commas n end block rows₀ from₀ at₀ id₀ j₀ rows from at id j = n - j
 
--- src/list.rt:61:5
 loop-holds : tie.Need-loop-holds Inv-loop μ-loop
 loop-holds c = listing-start (lineOf (c .before .before .before .before .before .args .kinds .now) (c .before .before .before .before .before .args .text .now) (c .before .before .before .before .before .args .pairs .now)) (take (c .before .before .before .before .before .args .n) (c .before .before .before .before .before .args .commas .now)) (c .before .before .before .before .before .args .end .0) (c .before .before .before .before .before .args .block) (c .before .before .before .before .before .args .rows .now) (c .before .before .before .before .before .pre .1 .1)
 
--- src/list.rt:62:26
 mul-wide : tie.Need-mul-wide Inv-loop μ-loop
 mul-wide c = omega arith
 
--- src/list.rt:62:26
 shared-slice-read-wide : tie.Need-shared-slice-read-wide Inv-loop μ-loop
 shared-slice-read-wide c = omega arith
 
--- src/list.rt:62:13
 wide-requires : tie.Need-wide-requires Inv-loop μ-loop
 wide-requires c κs = search needs
 
--- src/list.rt:63:13
 attr-rows-requires : tie.Need-attr-rows-requires Inv-loop μ-loop
 attr-rows-requires c κs = (c .before .before .before .before .before .before .before .before .before .before .pre .0, comma-room (lineOf (c .before .before .before .before .before .before .before .before .before .before .args .kinds .now) (c .before .before .before .before .before .before .before .before .before .before .args .text .now) (c .before .before .before .before .before .before .before .before .before .before .args .pairs .now)) (c .before .before .before .before .before .before .before .before .before .before .args .commas .now) (c .before .before .before .before .before .before .before .before .before .before .args .n) (c .before .before .before .before .before .before .before .before .before .before .args .end .0) (c .before .before .before .before .before .before .before .before .before .before .args .block) (c .before .before .before .before .before .before .before .before .before .before .args .rows .now) (c .before .before .before .before .before .before .before .before .before .before .pre .1 .0 .0) (c .before .before .before .before .loop .rows) (c .before .before .before .before .loop .from) (c .before .before .before .before .loop .at) (c .before .before .before .before .loop .id) (c .before .before .before .before .loop .j) (c .before .before .before .before .loop .inv) (length (c .before .before .before .before .before .before .before .before .before .before .args .kinds .now)) (c .before .before .before .before .before .before .before .before .before .before .pre .1 .0 .1) (c .before .before .before .before .before .before .before .before .before .before .pre .1 .0 .2) (c .before .wide .result) (c .before .before .before .loop-test .taken) (c .before .wide .ensures))
 
--- src/list.rt:66:16
 add-from : tie.Need-add-from Inv-loop μ-loop
 add-from c = omega (arith, comma-room (lineOf (c .before .before .before .before .before .before .before .before .before .before .before .before .before .args .kinds .now) (c .before .before .before .before .before .before .before .before .before .before .before .before .before .args .text .now) (c .before .before .before .before .before .before .before .before .before .before .before .before .before .args .pairs .now)) (c .before .before .before .before .before .before .before .before .before .before .before .before .before .args .commas .now) (c .before .before .before .before .before .before .before .before .before .before .before .before .before .args .n) (c .before .before .before .before .before .before .before .before .before .before .before .before .before .args .end .0) (c .before .before .before .before .before .before .before .before .before .before .before .before .before .args .block) (c .before .before .before .before .before .before .before .before .before .before .before .before .before .args .rows .now) (c .before .before .before .before .before .before .before .before .before .before .before .before .before .pre .1 .0 .0) (c .before .before .before .before .before .before .before .loop .rows) (c .before .before .before .before .before .before .before .loop .from) (c .before .before .before .before .before .before .before .loop .at) (c .before .before .before .before .before .before .before .loop .id) (c .before .before .before .before .before .before .before .loop .j) (c .before .before .before .before .before .before .before .loop .inv) (length (c .before .before .before .before .before .before .before .before .before .before .before .before .before .args .kinds .now)) (c .before .before .before .before .before .before .before .before .before .before .before .before .before .pre .1 .0 .1) (c .before .before .before .before .before .before .before .before .before .before .before .before .before .pre .1 .0 .2) (c .before .before .before .before .wide .result) (c .before .before .before .before .before .before .loop-test .taken) (c .before .before .before .before .wide .ensures) .1, c .before .before .before .before .before .before .before .before .before .before .before .before .before .pre .0 .few)
 
--- src/list.rt:67:9
 add-j : tie.Need-add-j Inv-loop μ-loop
 add-j c = omega arith
 
--- src/list.rt:61:5
 loop-less : tie.Need-loop-less Inv-loop μ-loop
 loop-less c = omega arith
 
--- src/list.rt:61:5
 loop-again : tie.Need-loop-again Inv-loop μ-loop
 loop-again c = next (lineOf (c .before .before .before .before .before .before .before .before .before .before .before .before .before .args .kinds .now) (c .before .before .before .before .before .before .before .before .before .before .before .before .before .args .text .now) (c .before .before .before .before .before .before .before .before .before .before .before .before .before .args .pairs .now)) (c .before .before .before .before .before .before .before .before .before .before .before .before .before .args .commas .now) (c .before .before .before .before .before .before .before .before .before .before .before .before .before .args .n) (c .before .before .before .before .before .before .before .before .before .before .before .before .before .args .end .0) (c .before .before .before .before .before .before .before .before .before .before .before .before .before .args .block) (c .before .before .before .before .before .before .before .before .before .before .before .before .before .args .rows .now) (c .before .before .before .before .before .before .before .before .before .before .before .before .before .pre .1 .0 .0) (c .before .before .before .before .before .before .before .loop .rows) (c .before .before .before .before .before .before .before .loop .from) (c .before .before .before .before .before .before .before .loop .at) (c .before .before .before .before .before .before .before .loop .id) (c .before .before .before .before .before .before .before .loop .j) (c .before .before .before .before .before .before .before .loop .inv) (c .before .before .before .before .wide .result) (c .before .before .before .before .before .before .loop-test .taken) (c .before .before .before .before .wide .ensures) (c .before .before .attr-rows .result) _ (c .before .before .attr-rows .ensures .0) (c .before .before .attr-rows .ensures .1 .0) (c .before .before .attr-rows .ensures .1 .1)
 
--- src/list.rt:69:9
 attr-rows-requires-2 : tie.Need-attr-rows-requires-2 Inv-loop μ-loop
 attr-rows-requires-2 c κs = (c .before .before .before .before .before .before .before .before .pre .0, end-room (lineOf (c .before .before .before .before .before .before .before .before .args .kinds .now) (c .before .before .before .before .before .before .before .before .args .text .now) (c .before .before .before .before .before .before .before .before .args .pairs .now)) (c .before .before .before .before .before .before .before .before .args .commas .now) (c .before .before .before .before .before .before .before .before .args .n) (c .before .before .before .before .before .before .before .before .args .end .0) (c .before .before .before .before .before .before .before .before .args .block) (c .before .before .before .before .before .before .before .before .args .rows .now) (c .before .before .before .before .before .before .before .before .pre .1 .0 .0) (c .before .before .loop .rows) (c .before .before .loop .from) (c .before .before .loop .at) (c .before .before .loop .id) (c .before .before .loop .j) (c .before .before .loop .inv) (length (c .before .before .before .before .before .before .before .before .args .kinds .now)) (c .before .before .before .before .before .before .before .before .pre .1 .0 .1) (c .before .before .before .before .before .before .before .before .pre .1 .0 .2))
 
--- src/list.rt:41:1
 same-length : tie.Need-same-length Inv-loop μ-loop
 same-length c = c .before .before .attr-rows2 .kept .1 .1 .1 .1 .1 .1 .1 .0 ∙ c .before .before .before .before .before .loop .inv .writes .long
 
--- src/list.rt:41:1
 returns : tie.Need-returns Inv-loop μ-loop
 returns c = let w = last (lineOf (c .before .before .before .before .before .before .before .before .before .before .before .args .kinds .now) (c .before .before .before .before .before .before .before .before .before .before .before .args .text .now) (c .before .before .before .before .before .before .before .before .before .before .before .args .pairs .now)) (c .before .before .before .before .before .before .before .before .before .before .before .args .commas .now) (c .before .before .before .before .before .before .before .before .before .before .before .args .n) (c .before .before .before .before .before .before .before .before .before .before .before .args .end .0) (c .before .before .before .before .before .before .before .before .before .before .before .args .block) (c .before .before .before .before .before .before .before .before .before .before .before .args .rows .now) (c .before .before .before .before .before .before .before .before .before .before .before .pre .1 .0 .0) (c .before .before .before .before .before .loop .rows) (c .before .before .before .before .before .loop .from) (c .before .before .before .before .before .loop .at) (c .before .before .before .before .before .loop .id) (c .before .before .before .before .before .loop .j) (c .before .before .before .before .before .loop .inv) (c .before .before .before .before .loop-test .left) (c .before .before .attr-rows2 .result) _ (c .before .before .attr-rows2 .ensures .0) (c .before .before .attr-rows2 .ensures .1 .0) in (omega (arith, w .count), w .buffer)
 

@@ -6,19 +6,15 @@ use borrow.Author.Tests.{eq-eqb, ne-eqb}
 use Rattle.attr_list.proofs.list.one_word.Statement.{statement}
 use Rattle.attr_list.proofs.list.one_word.Tie as tie
 
--- src/list.rt:58:16
 add-if1 : tie.Need-add-if1
 add-if1 c = search needs
 
--- src/list.rt:59:9
 returns : tie.Need-returns
 returns c = rw (ne-eqb _ _ (c .if1 .taken)) refl
 
--- src/list.rt:61:5
 shared-slice-read-result : tie.Need-shared-slice-read-result
 shared-slice-read-result c = search needs
 
--- src/list.rt:53:1
 returns-2 : tie.Need-returns-2
 returns-2 c = rw (eq-eqb _ _ (c .before .if1 .left)) refl
 

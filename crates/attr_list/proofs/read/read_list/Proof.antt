@@ -1,66 +1,44 @@
 -- `read_list` reads an empty list, then a list with its commas in either array. Assumes nothing.
 use borrow.Author.Needs.{needs}
-use Prim.Native.Nat.{ℕ, zero, suc, _+_, _*_, _-_, _≤_, _<_}
+use Prim.Native.Nat.{_-_}
 use native.Mathlib.Omega.{arith}
-use native.Mathlib.Numerals.{add-one}
-use mathlib.Core.Bool.{Bool, true, false, cond, not, _&&_, _||_}
-use mathlib.Core.Path.{_≡_, refl, sym, ap, subst, _∙_}
-use mathlib.Core.Logic.{⊎-elim}
-use mathlib.Core.List.{List, [], _∷_, _++_}
-use lib.Dec.{eqb}
-use lib.ListN.{length, getD, take, drop, set, length-set}
-use borrow.Author.Tests.{eq-eqb, ne-eqb, lt-ltb, le-ltb, le-leb, lt-leb}
 use Rattle.token.specs.Line.{lineOf}
 use Rattle.attr_list.specs.Reading.{listTo, closing}
 use Rattle.attr_list.proofs.Readings.{closed-gives, open-gives}
 use Rattle.attr_list.proofs.read.read_list.Statement.{statement}
 use Rattle.attr_list.proofs.read.read_list.Tie as tie
 use Rattle.attr_list.proofs.read.read_list.Reads as reads
-use Rattle.attr_list.proofs.read.read_list.Lts as lts
-use Rattle.attr_list.proofs.read.no_rows.Reads as no-rows-reads
-use Rattle.attr_list.proofs.read.read_list_in.Reads as read-list-in-reads
 
--- src/read.rt:107:8
 shared-slice-read-if1 : tie.Need-shared-slice-read-if1
 shared-slice-read-if1 c = omega (arith, c .before .before .before .before .before .pre .0 .some)
 
--- src/read.rt:108:9
 no-rows-requires : tie.Need-no-rows-requires
 no-rows-requires c κs = search needs
 
--- src/read.rt:108:9
 returns : tie.Need-returns
 returns c = let w = closed-gives (c .before .before .before .before .before .before .before .args .kinds .now) (listTo (lineOf (c .before .before .before .before .before .before .before .args .kinds .now) (c .before .before .before .before .before .before .before .args .text .now) (c .before .before .before .before .before .before .before .args .pairs .now)) (c .before .before .before .before .before .before .before .args .block) (closing (c .before .before .before .before .before .before .before .args .full) (c .before .before .before .before .before .before .before .args .kinds .now))) (c .before .before .before .before .before .before .before .args .rows .now) (c .before .if1 .taken) (c .no-rows .result) (c .no-rows .ensures) in (w .answers, w .leaves)
 
--- src/read.rt:112:49
 slice-aggregate-read-list-in : tie.Need-slice-aggregate-read-list-in
 slice-aggregate-read-list-in c = search needs
 
--- src/read.rt:112:9
 read-list-in-requires : tie.Need-read-list-in-requires
 read-list-in-requires c κs = search needs
 
--- src/read.rt:112:9
 same-length : tie.Need-same-length
 same-length c = search needs
 
--- src/read.rt:112:9
 returns-2 : tie.Need-returns-2
 returns-2 c = let w = open-gives (c .before .before .before .before .before .before .before .before .before .before .before .before .before .args .kinds .now) (listTo (lineOf (c .before .before .before .before .before .before .before .before .before .before .before .before .before .args .kinds .now) (c .before .before .before .before .before .before .before .before .before .before .before .before .before .args .text .now) (c .before .before .before .before .before .before .before .before .before .before .before .before .before .args .pairs .now)) (c .before .before .before .before .before .before .before .before .before .before .before .before .before .args .block) (closing (c .before .before .before .before .before .before .before .before .before .before .before .before .before .args .full) (c .before .before .before .before .before .before .before .before .before .before .before .before .before .args .kinds .now))) (c .before .before .before .before .before .before .before .before .before .before .before .before .before .args .rows .now) (c .before .before .before .before .before .before .before .if1 .left) (c .before .before .before .read-list-in .result) _ (c .before .before .before .read-list-in .ensures .0) (c .before .before .before .read-list-in .ensures .1) in (w .answers, w .leaves)
 
--- src/read.rt:115:38
 slice-aggregate-read-list-in-2 : tie.Need-slice-aggregate-read-list-in-2
 slice-aggregate-read-list-in-2 c = search needs
 
--- src/read.rt:115:5
 read-list-in-requires-2 : tie.Need-read-list-in-requires-2
 read-list-in-requires-2 c κs = search needs
 
--- src/read.rt:94:1
 same-length-2 : tie.Need-same-length-2
 same-length-2 c = search needs
 
--- src/read.rt:94:1
 returns-3 : tie.Need-returns-3
 returns-3 c = let w = open-gives (c .before .before .before .before .before .before .before .before .before .before .before .before .before .args .kinds .now) (listTo (lineOf (c .before .before .before .before .before .before .before .before .before .before .before .before .before .args .kinds .now) (c .before .before .before .before .before .before .before .before .before .before .before .before .before .args .text .now) (c .before .before .before .before .before .before .before .before .before .before .before .before .before .args .pairs .now)) (c .before .before .before .before .before .before .before .before .before .before .before .before .before .args .block) (closing (c .before .before .before .before .before .before .before .before .before .before .before .before .before .args .full) (c .before .before .before .before .before .before .before .before .before .before .before .before .before .args .kinds .now))) (c .before .before .before .before .before .before .before .before .before .before .before .before .before .args .rows .now) (c .before .before .before .before .before .before .before .if1 .left) (c .before .before .before .read-list-in2 .result) _ (c .before .before .before .read-list-in2 .ensures .0) (c .before .before .before .read-list-in2 .ensures .1) in (w .answers, w .leaves)
 

@@ -1,66 +1,43 @@
 -- `read_list_in` reads the attributes between the dividing commas up to the closing bracket, or refuses with 8 before anything is written. Assumes
 -- nothing.
 use borrow.Author.Needs.{needs}
-use Prim.Native.Nat.{ℕ, zero, suc, _+_, _*_, _-_, _≤_, _<_}
+use Prim.Native.Nat.{_-_}
 use native.Mathlib.Omega.{arith}
-use native.Mathlib.Numerals.{add-one}
-use mathlib.Core.Bool.{Bool, true, false, cond, not, _&&_, _||_}
-use mathlib.Core.Path.{_≡_, refl, sym, ap, subst, _∙_}
-use mathlib.Core.Logic.{⊎-elim}
-use mathlib.Core.List.{List, [], _∷_, _++_}
-use lib.Dec.{eqb}
-use lib.ListN.{length, getD, take, drop, set, length-set}
-use borrow.Author.Tests.{eq-eqb, ne-eqb, lt-ltb, le-ltb, le-leb, lt-leb}
 use Rattle.attr_list.proofs.Readings.{end-is, list-nowhere, list-commas, list-gives}
 use Rattle.attr_list.proofs.read.read_list_in.Statement.{statement}
 use Rattle.attr_list.proofs.read.read_list_in.Tie as tie
 use Rattle.attr_list.proofs.read.read_list_in.Reads as reads
-use Rattle.attr_list.proofs.read.read_list_in.Lts as lts
-use Rattle.attr_list.proofs.list.closing_bracket.Reads as closing-bracket-reads
-use Rattle.attr_list.proofs.list.list_rows.Reads as list-rows-reads
-use Rattle.delimiters.proofs.find_delimiters.Reads as find-delimiters-reads
 
--- src/read.rt:63:9
 find-delimiters-requires : tie.Need-find-delimiters-requires
 find-delimiters-requires c κs = search needs
 
--- src/read.rt:65:9
 closing-bracket-requires : tie.Need-closing-bracket-requires
 closing-bracket-requires c κs = search needs
 
--- src/read.rt:66:21
 enum-known-closing : tie.Need-enum-known-closing
 enum-known-closing c = c .match .keys1
 
--- src/read.rt:67:9
 enum-told : tie.Need-enum-told
 enum-told c = c .match .keys2
 
--- src/read.rt:67:9
 same-length : tie.Need-same-length
 same-length c = search needs
 
--- src/read.rt:67:9
 returns : tie.Need-returns
 returns c = let w = list-nowhere (c .before .before .before .before .before .before .before .before .before .before .before .before .before .args .kinds .now) (c .before .before .before .before .before .before .before .before .before .before .before .before .before .args .text .now) (c .before .before .before .before .before .before .before .before .before .before .before .before .before .args .pairs .now) (c .before .before .before .before .before .before .before .before .before .before .before .before .before .args .full) (c .before .before .closing-bracket .result) (c .before .before .closing-bracket .ensures) (c .before .before .before .before .before .before .before .before .before .before .before .before .before .args .block) (c .before .before .before .before .before .before .before .before .before .before .before .before .before .args .rows .now) (c .enum-told .given .1) in (w .answers, w .leaves)
 
--- src/read.rt:69:9
 list-rows-requires : tie.Need-list-rows-requires
 list-rows-requires c κs = let w = end-is (c .before .before .before .before .before .before .before .before .before .before .before .before .before .before .before .before .args .kinds .now) (c .before .before .before .before .before .before .before .before .before .before .before .before .before .before .before .before .args .text .now) (c .before .before .before .before .before .before .before .before .before .before .before .before .before .before .before .before .args .pairs .now) (c .before .before .before .before .before .before .before .before .before .before .before .before .before .before .before .before .args .full) (c .before .before .before .before .before .closing-bracket .result) (c .before .before .before .before .before .closing-bracket .ensures) (c .before .before .before .before .before .before .before .before .before .before .before .before .before .before .before .before .pre .0 .some) (c .before .before .before .closing .given .0 .0) (c .before .before .before .closing .given .1) in (c .before .before .before .before .before .before .before .before .before .before .before .before .before .before .before .before .pre .0, ((omega arith, omega (arith, w .among), omega (arith, w .among, c .before .before .before .before .before .before .before .before .before .before .before .before .before .before .before .before .pre .1 .0)), list-commas (c .before .before .before .before .before .before .before .before .before .before .before .before .before .before .before .before .args .kinds .now) (c .before .before .before .before .before .before .before .before .before .before .before .before .before .before .before .before .args .text .now) (c .before .before .before .before .before .before .before .before .before .before .before .before .before .before .before .before .args .pairs .now) (c .before .before .before .before .before .before .before .before .before .before .before .before .before .before .before .before .args .full) (c .before .before .before .before .before .closing-bracket .result) (c .before .before .before .before .before .closing-bracket .ensures) (c .before .before .before .before .before .before .before .before .before .before .before .before .before .before .before .before .pre .0 .some) (c .before .before .before .closing .given .0 .0) (c .before .before .before .closing .given .1) (c .before .before .before .before .before .before .before .before .before .find-delimiters .last .1 .0) (c .before .before .before .before .before .before .before .before .before .find-delimiters .result .commas) (c .before .before .before .before .before .before .before .before .before .find-delimiters .ensures .1 .1 .0)))
 
--- src/read.rt:72:19
 add-t25 : tie.Need-add-t25
 add-t25 c = let w = end-is (c .before .before .before .before .before .before .before .before .before .before .before .before .before .before .before .before .before .before .before .before .args .kinds .now) (c .before .before .before .before .before .before .before .before .before .before .before .before .before .before .before .before .before .before .before .before .args .text .now) (c .before .before .before .before .before .before .before .before .before .before .before .before .before .before .before .before .before .before .before .before .args .pairs .now) (c .before .before .before .before .before .before .before .before .before .before .before .before .before .before .before .before .before .before .before .before .args .full) (c .before .before .before .before .before .before .before .before .before .closing-bracket .result) (c .before .before .before .before .before .before .before .before .before .closing-bracket .ensures) (c .before .before .before .before .before .before .before .before .before .before .before .before .before .before .before .before .before .before .before .before .pre .0 .some) (c .before .before .before .before .before .before .before .closing .given .0 .0) (c .before .before .before .before .before .before .before .closing .given .1) in omega (arith, w .among, c .before .before .before .before .before .before .before .before .before .before .before .before .before .before .before .before .before .before .before .before .pre .0 .few)
 
--- src/read.rt:49:1
 same-length-2 : tie.Need-same-length-2
 same-length-2 c = search needs
 
--- src/read.rt:49:1
 same-length-3 : tie.Need-same-length-3
 same-length-3 c = search needs
 
--- src/read.rt:49:1
 returns-2 : tie.Need-returns-2
 returns-2 c = let w = list-gives (c .before .before .before .before .before .before .before .before .before .before .before .before .before .before .before .before .before .before .before .before .args .kinds .now) (c .before .before .before .before .before .before .before .before .before .before .before .before .before .before .before .before .before .before .before .before .args .text .now) (c .before .before .before .before .before .before .before .before .before .before .before .before .before .before .before .before .before .before .before .before .args .pairs .now) (c .before .before .before .before .before .before .before .before .before .before .before .before .before .before .before .before .before .before .before .before .args .full) (c .before .before .before .before .before .before .before .before .before .closing-bracket .result) (c .before .before .before .before .before .before .before .before .before .closing-bracket .ensures) (c .before .before .before .before .before .before .before .before .before .before .before .before .before .before .before .before .before .before .before .before .pre .0 .some) (c .before .before .before .before .before .before .before .closing .given .0 .0) (c .before .before .before .before .before .before .before .closing .given .1) (c .before .before .before .before .before .before .before .before .before .before .before .before .before .find-delimiters .last .1 .0) (c .before .before .before .before .before .before .before .before .before .before .before .before .before .find-delimiters .result .commas) (c .before .before .before .before .before .before .before .before .before .before .before .before .before .find-delimiters .ensures .1 .1 .0) (c .before .before .before .before .before .before .before .before .before .before .before .before .before .before .before .before .before .before .before .before .pre .1 .2) (c .before .before .before .before .before .before .before .before .before .before .before .before .before .before .before .before .before .before .before .before .args .block) (c .before .before .before .before .before .before .before .before .before .before .before .before .before .before .before .before .before .before .before .before .args .rows .now) _ (c .before .before .before .list-rows .result) (c .before .before .before .list-rows .ensures .0) (c .before .before .before .list-rows .ensures .1) in (w .answers, w .leaves)
 

@@ -1,54 +1,32 @@
 -- `read_text` writes the one row of a link's text, or refuses with 8 before it. Assumes nothing.
 use borrow.Author.Needs.{needs}
-use Prim.Native.Nat.{ℕ, zero, suc, _+_, _*_, _-_, _≤_, _<_}
+use Prim.Native.Nat.{_-_}
 use native.Mathlib.Omega.{arith}
-use native.Mathlib.Numerals.{add-one}
-use mathlib.Core.Bool.{Bool, true, false, cond, not, _&&_, _||_}
-use mathlib.Core.Path.{_≡_, refl, sym, ap, subst, _∙_}
-use mathlib.Core.Logic.{⊎-elim}
-use mathlib.Core.List.{List, [], _∷_, _++_}
-use lib.Dec.{eqb}
-use lib.ListN.{length, getD, take, drop, set, length-set}
-use borrow.Author.Tests.{eq-eqb, ne-eqb, lt-ltb, le-ltb, le-leb, lt-leb}
 use Rattle.attr_list.proofs.Readings.{text-not, text-gives, text-fits}
-use Rattle.token.specs.Line.{lineOf}
 use Rattle.attr_list.proofs.read.read_text.Statement.{statement}
 use Rattle.attr_list.proofs.read.read_text.Tie as tie
-use Rattle.attr_list.proofs.read.read_text.Reads as reads
-use Rattle.attr_list.proofs.read.read_text.Lts as lts
-use Rattle.row.proofs.one_run.Reads as one-run-reads
-use Rattle.row.proofs.put_row.Reads as put-row-reads
-use Rattle.token.proofs.runs.unquote.Reads as unquote-reads
 
--- src/read.rt:112:8
 shared-slice-read-if1 : tie.Need-shared-slice-read-if1
 shared-slice-read-if1 c = search needs
 
--- src/read.rt:113:9
 returns : tie.Need-returns
 returns c = let w = text-not (c .before .before .before .before .before .before .args .kinds .now) (c .before .before .before .before .before .before .args .text .now) (c .before .before .before .before .before .before .args .pairs .now) (c .before .before .before .before .before .before .args .end .0) (c .before .before .before .before .before .before .args .rows .now) (c .if1 .taken) in (w .answers, w .leaves)
 
--- src/read.rt:115:42
 unquote-requires : tie.Need-unquote-requires
 unquote-requires c κs = search needs
 
--- src/read.rt:115:22
 one-run-requires : tie.Need-one-run-requires
 one-run-requires c κs = search needs
 
--- src/read.rt:115:5
 put-row-requires : tie.Need-put-row-requires
 put-row-requires c κs = (omega arith, text-fits _ (c .before .before .before .before .before .before .before .before .before .args .kinds .now) (c .before .before .before .before .before .before .before .before .before .args .text .now) (c .before .before .before .before .before .before .before .before .before .args .pairs .now) 0 (c .before .before .before .before .before .before .before .before .before .args .end .0) (c .before .unquote .result) (c .one-run .result) (c .before .before .before .before .before .before .before .before .before .pre .0) (omega arith) (c .before .unquote .ensures .1) (c .one-run .ensures))
 
--- src/read.rt:118:19
 add-t16 : tie.Need-add-t16
 add-t16 c = search needs
 
--- src/read.rt:99:1
 same-length : tie.Need-same-length
 same-length c = search needs
 
--- src/read.rt:99:1
 returns-2 : tie.Need-returns-2
 returns-2 c = let w = text-gives (c .before .before .before .before .before .before .before .before .before .before .before .before .args .kinds .now) (c .before .before .before .before .before .before .before .before .before .before .before .before .args .text .now) (c .before .before .before .before .before .before .before .before .before .before .before .before .args .pairs .now) (c .before .before .before .before .before .before .before .before .before .before .before .before .args .end .0) (c .before .before .before .before .before .before .before .before .before .before .before .before .args .rows .now) (c .before .before .before .before .before .before .if1 .left) (c .before .before .before .before .unquote .result) (c .before .before .before .one-run .result) _ (c .before .before .before .one-run .ensures) (c .before .before .before .before .unquote .ensures .0 (c .before .before .before .before .before .before .before .before .before .before .before .before .args .text .now) (c .before .before .before .before .before .before .before .before .before .before .before .before .args .pairs .now)) (c .before .before .put-row .ensures) in (w .answers, w .leaves)
 

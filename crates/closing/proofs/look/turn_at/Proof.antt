@@ -1,99 +1,68 @@
 -- `turn_at` decides as the rule's arms do: one law for each way through the match. Assumes nothing.
 use borrow.Author.Needs.{needs}
-use Prim.Native.Nat.{ℕ, zero, suc, _+_, _*_, _-_, _≤_, _<_}
-use native.Mathlib.Omega.{arith}
-use native.Mathlib.Numerals.{add-one}
-use mathlib.Core.Bool.{Bool, true, false, cond, not, _&&_, _||_}
-use mathlib.Core.Path.{_≡_, refl, sym, ap, subst, _∙_}
-use mathlib.Core.Logic.{⊎-elim}
-use mathlib.Core.List.{List, [], _∷_, _++_}
-use lib.Dec.{eqb}
-use lib.ListN.{length, getD, take, drop, set, length-set}
-use borrow.Author.Tests.{eq-eqb, ne-eqb, lt-ltb, le-ltb, le-leb, lt-leb}
+use Prim.Native.Nat.{_-_}
+use mathlib.Core.Path.{_∙_}
 use Rattle.closing.specs.LinkLaws.{turn-nested, turn-closed, turn-open, turn-quote, turn-escaped-close, turn-escaped-open, turn-escaped-quote, turn-equals, turn-quoted, turn-long, turn-other}
 use Rattle.closing.proofs.look.turn_at.Statement.{statement}
 use Rattle.closing.proofs.look.turn_at.Tie as tie
-use Rattle.closing.proofs.look.turn_at.Reads as reads
-use Rattle.closing.proofs.look.turn_at.Lts as lts
-use Rattle.closing.proofs.look.on.Reads as on-reads
 
--- src/look.rt:40:17
 on-requires : tie.Need-on-requires
 on-requires c κs = search needs
 
--- src/look.rt:40:17
 returns : tie.Need-returns
 returns c = c .on .ensures ∙ turn-nested (c .before .before .before .before .args .seen) (c .before .before .before .before .args .k) (c .before .before .before .before .args .one) (c .before .before .match .keys1) (c .before .if1 .taken)
 
--- src/look.rt:43:17
 on-requires-2 : tie.Need-on-requires-2
 on-requires-2 c κs = search needs
 
--- src/look.rt:43:17
 returns-2 : tie.Need-returns-2
 returns-2 c = c .on2 .ensures ∙ turn-escaped-close (c .before .before .before .before .before .args .seen) (c .before .before .before .before .before .args .k) (c .before .before .before .before .before .args .one) (c .before .before .before .match .keys1) (c .before .before .if1 .left) (c .before .if2 .taken)
 
--- src/look.rt:49:17
 on-requires-3 : tie.Need-on-requires-3
 on-requires-3 c κs = search needs
 
--- src/look.rt:49:17
 returns-3 : tie.Need-returns-3
 returns-3 c = c .on3 .ensures ∙ turn-escaped-open (c .before .before .before .before .args .seen) (c .before .before .before .before .args .k) (c .before .before .before .before .args .one) (c .before .before .match .keys2) (c .before .if3 .taken)
 
--- src/look.rt:51:13
 on-requires-4 : tie.Need-on-requires-4
 on-requires-4 c κs = search needs
 
--- src/look.rt:55:17
 on-requires-5 : tie.Need-on-requires-5
 on-requires-5 c κs = search needs
 
--- src/look.rt:55:17
 returns-4 : tie.Need-returns-4
 returns-4 c = c .on5 .ensures ∙ turn-escaped-quote (c .before .before .before .before .args .seen) (c .before .before .before .before .args .k) (c .before .before .before .before .args .one) (c .before .before .match .keys3) (c .before .if4 .taken)
 
--- src/look.rt:57:13
 on-requires-6 : tie.Need-on-requires-6
 on-requires-6 c κs = search needs
 
--- src/look.rt:61:17
 on-requires-7 : tie.Need-on-requires-7
 on-requires-7 c κs = search needs
 
--- src/look.rt:61:17
 returns-5 : tie.Need-returns-5
 returns-5 c = c .on7 .ensures ∙ turn-quoted (c .before .before .before .before .args .seen) (c .before .before .before .before .args .k) (c .before .before .before .before .args .one) (c .before .before .match .keys4) (c .before .if5 .taken)
 
--- src/look.rt:64:17
 returns-6 : tie.Need-returns-6
 returns-6 c = turn-equals (c .before .before .before .before .args .seen) (c .before .before .before .before .args .k) (c .before .before .before .before .args .one) (c .before .before .match .keys4) (c .before .if5 .left) (c .if6 .taken)
 
--- src/look.rt:66:13
 on-requires-8 : tie.Need-on-requires-8
 on-requires-8 c κs = search needs
 
--- src/look.rt:68:14
 on-requires-9 : tie.Need-on-requires-9
 on-requires-9 c κs = search needs
 
--- src/look.rt:31:1
 returns-7 : tie.Need-returns-7
 returns-7 c = turn-closed (c .before .before .before .before .args .seen) (c .before .before .before .before .args .k) (c .before .before .before .before .args .one) (c .before .before .match .keys1) (c .before .if1 .left) (c .if2 .left)
 
--- src/look.rt:31:1
 returns-8 : tie.Need-returns-8
 returns-8 c = c .on4 .ensures ∙ turn-open (c .before .before .before .before .args .seen) (c .before .before .before .before .args .k) (c .before .before .before .before .args .one) (c .before .before .match .keys2) (c .before .if3 .left)
 
--- src/look.rt:31:1
 returns-9 : tie.Need-returns-9
 returns-9 c = c .on6 .ensures ∙ turn-quote (c .before .before .before .before .args .seen) (c .before .before .before .before .args .k) (c .before .before .before .before .args .one) (c .before .before .match .keys3) (c .before .if4 .left)
 
--- src/look.rt:31:1
 returns-10 : tie.Need-returns-10
 returns-10 c = c .on8 .ensures ∙ turn-long (c .before .before .before .before .before .args .seen) (c .before .before .before .before .before .args .k) (c .before .before .before .before .before .args .one) (c .before .before .before .match .keys4) (c .before .if6 .left)
 
--- src/look.rt:31:1
 returns-11 : tie.Need-returns-11
 returns-11 c = c .on9 .ensures ∙ turn-other (c .before .before .before .args .seen) (c .before .before .before .args .k) (c .before .before .before .args .one) (c .before .match .rest .0 .0 .0 .1) (c .before .match .rest .0 .0 .1) (c .before .match .rest .0 .1) (c .before .match .rest .1)
 

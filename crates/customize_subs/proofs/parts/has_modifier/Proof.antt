@@ -1,6 +1,6 @@
 -- `has_modifier` looks for a + or -. The loop's invariant: one is found already or the rest holds one, exactly where the whole does. Assumes nothing.
 use borrow.Author.Needs.{needs}
-use Prim.Native.Nat.{ℕ, _-_, _≤_}
+use Prim.Native.Nat.{_-_, _≤_}
 use native.Mathlib.Omega.{arith}
 use mathlib.Core.Bool.{Bool, _||_, or-false}
 use mathlib.Core.Path.{_≡_, refl, sym, ap, _∙_}

@@ -18,15 +18,12 @@ shifted (suc (suc (suc (suc (suc (suc zero)))))) low high = (refl, omega arith, 
 shifted (suc (suc (suc (suc (suc (suc (suc zero))))))) low high = (refl, omega arith, omega arith)
 shifted (suc (suc (suc (suc (suc (suc (suc (suc k)))))))) low high = absurd (omega arith)
 
--- src/flags.rt:11:11
 sub-result : tie.Need-sub-result
 sub-result c = search needs
 
--- src/flags.rt:11:5
 shl-result : tie.Need-shl-result
 shl-result c = search needs
 
--- src/flags.rt:6:1
 returns : tie.Need-returns
 returns c = let w = shifted (c .args .k) (c .pre .0) (c .pre .1) in (w .0, (w .1, w .2))
 

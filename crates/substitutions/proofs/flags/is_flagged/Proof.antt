@@ -4,15 +4,12 @@ use Rattle.substitutions.specs.Kinds.{flagged}
 use Rattle.substitutions.proofs.flags.is_flagged.Statement.{statement}
 use Rattle.substitutions.proofs.flags.is_flagged.Tie as tie
 
--- src/flags.rt:18:16
 sub-result : tie.Need-sub-result
 sub-result c = search needs
 
--- src/flags.rt:18:6
 shr-result : tie.Need-shr-result
 shr-result c = search needs
 
--- src/flags.rt:14:1
 returns : tie.Need-returns
 unfolding flagged
 returns c = search needs

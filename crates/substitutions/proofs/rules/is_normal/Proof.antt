@@ -5,7 +5,7 @@ use mathlib.Core.Bool.{Bool, true, false, _&&_}
 use mathlib.Core.List.{List}
 use mathlib.Core.Path.{_≡_, refl}
 use lib.Dec.{eqb}
-use lib.ListN.{getD, set}
+use lib.ListN.{getD}
 use borrow.Author.Tests.{eq-eqb, ne-eqb}
 use Rattle.substitutions.specs.Walks.{normalPlaces}
 use Rattle.substitutions.proofs.rules.is_normal.Statement.{statement}

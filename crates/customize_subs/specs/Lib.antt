@@ -1,3 +1,4 @@
+pub mod AloneLaws
 pub mod Text
 pub mod Customizing
 pub mod Cases

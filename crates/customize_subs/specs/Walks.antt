@@ -1,12 +1,17 @@
 -- Parts by their places in the text, as the code finds them, and what it tests of a move. No public contract speaks of these: the laws tie them to `Text`
 -- and `Customizing`.
 use Prim.Native.Nat.{ℕ, suc, _-_}
-use mathlib.Core.Bool.{Bool, false, not, cond, _||_}
+use mathlib.Core.Bool.{Bool, true, false, not, cond, _||_}
 use mathlib.Core.List.{List, [], _∷_}
 use lib.Dec.{eqb, leb}
 use lib.ListN.{length, take, drop}
 use Rattle.substitutions.specs.declared.Substitutions.{Substitutions}
+use Rattle.substitutions.specs.declared.Mode.{Mode}
+use Rattle.substitutions.specs.declared.Mode.the-variants.{Port, Sheet}
 use Rattle.substitutions.specs.Kinds.{flagged}
+use Rattle.substitutions.specs.Moves.{set, empty-set}
+use Rattle.subs_names.specs.declared.StepOrGroup.{StepOrGroup}
+use Rattle.subs_names.specs.declared.StepOrGroup.the-variants.{None, Normal, Verbatim, SpecialChars, Callouts, Quotes, Attributes, Replacements, Macros, PostReplacements}
 use Rattle.customize_subs.specs.declared.Strategy.{Strategy}
 use Rattle.customize_subs.specs.declared.Strategy.the-variants.{Insert, Prepend, Remove}
 use Rattle.customize_subs.specs.Text.{split}
@@ -33,3 +38,23 @@ abbrev pub stays : Strategy → ℕ → Substitutions → Bool
 stays Insert k s = flagged k (s .flags)
 stays Prepend k s = false
 stays Remove k s = not (flagged k (s .flags))
+
+-- A move that inserts.
+abbrev pub inserts : Strategy → Bool
+inserts Insert = true
+inserts Prepend = false
+inserts Remove = false
+
+-- The set of a name alone.
+abbrev pub aloneOf : Mode → StepOrGroup → Substitutions
+aloneOf m None = empty-set
+aloneOf m Normal = set (1 ∷ 2 ∷ 3 ∷ 4 ∷ 5 ∷ 6 ∷ 0 ∷ []) 63
+aloneOf Port Verbatim = set (1 ∷ 4 ∷ 0 ∷ 0 ∷ 0 ∷ 0 ∷ 0 ∷ []) 9
+aloneOf Sheet Verbatim = set (1 ∷ 7 ∷ 0 ∷ 0 ∷ 0 ∷ 0 ∷ 0 ∷ []) 65
+aloneOf m SpecialChars = set (1 ∷ 0 ∷ 0 ∷ 0 ∷ 0 ∷ 0 ∷ 0 ∷ []) 1
+aloneOf m Quotes = set (2 ∷ 0 ∷ 0 ∷ 0 ∷ 0 ∷ 0 ∷ 0 ∷ []) 2
+aloneOf m Attributes = set (3 ∷ 0 ∷ 0 ∷ 0 ∷ 0 ∷ 0 ∷ 0 ∷ []) 4
+aloneOf m Replacements = set (4 ∷ 0 ∷ 0 ∷ 0 ∷ 0 ∷ 0 ∷ 0 ∷ []) 8
+aloneOf m Macros = set (5 ∷ 0 ∷ 0 ∷ 0 ∷ 0 ∷ 0 ∷ 0 ∷ []) 16
+aloneOf m PostReplacements = set (6 ∷ 0 ∷ 0 ∷ 0 ∷ 0 ∷ 0 ∷ 0 ∷ []) 32
+aloneOf m Callouts = set (7 ∷ 0 ∷ 0 ∷ 0 ∷ 0 ∷ 0 ∷ 0 ∷ []) 64

@@ -14,7 +14,8 @@ ghost use mathlib.Core.List.{[], _∷_};
 ghost use Rattle.substitutions.specs.Kinds.{numberOf};
 ghost use Rattle.substitutions.specs.Held.{held};
 ghost use Rattle.customize_subs.specs.Customizing.{moveOf, verbatimOf, kindsOf, entered};
-ghost use Rattle.customize_subs.specs.Walks.{stays};
+ghost use Rattle.substitutions.specs.Moves.{set};
+ghost use Rattle.customize_subs.specs.Walks.{stays, inserts, aloneOf};
 
 // Whether a move leaves the set as it is: an insert of what is in it, a remove of what is not.
 fn stays(strategy: Strategy, set: Substitutions, sub: Subs) -> bool
@@ -86,7 +87,13 @@ pub fn enter_verbatim(mode: Mode, strategy: Strategy, set: Substitutions) -> Sub
     enter_kind(mode, strategy, a, verbatim_second(mode))
 }
 
-pub fn enter(mode: Mode, strategy: Strategy, step: StepOrGroup, set: Substitutions) -> Substitutions
+// The kinds of a name, one after the other.
+fn enter_kinds(
+    mode: Mode,
+    strategy: Strategy,
+    step: StepOrGroup,
+    set: Substitutions,
+) -> Substitutions
     requires { ⌜ held set ≡ true ⌝ }
     ensures { λ r. ⌜ r ≡ entered mode strategy (kindsOf mode step) set ⌝ }
     ensures held { λ r. ⌜ held r ≡ true ⌝ }
@@ -103,4 +110,61 @@ pub fn enter(mode: Mode, strategy: Strategy, step: StepOrGroup, set: Substitutio
         StepOrGroup::PostReplacements => enter_kind(mode, strategy, set, Subs::PostReplacement),
         StepOrGroup::Callouts => enter_kind(mode, strategy, set, Subs::Callouts),
     }
+}
+
+fn placed(places: [u8; 7], flags: u8) -> Substitutions
+    ensures { λ r. ⌜ r ≡ set places flags ⌝ }
+{
+    Substitutions { places, flags }
+}
+
+fn verbatim_alone(mode: Mode) -> Substitutions
+    ensures { λ r. ⌜ r ≡ aloneOf mode StepOrGroup.Verbatim ⌝ }
+{
+    match mode {
+        Mode::Port => placed([1, 4, 0, 0, 0, 0, 0], 9),
+        Mode::Sheet => placed([1, 7, 0, 0, 0, 0, 0], 65),
+    }
+}
+
+// The set that has the kinds of a name and no others.
+pub fn alone(mode: Mode, step: StepOrGroup) -> Substitutions
+    ensures { λ r. ⌜ r ≡ aloneOf mode step ⌝ }
+{
+    match step {
+        StepOrGroup::None => placed([0, 0, 0, 0, 0, 0, 0], 0),
+        StepOrGroup::Normal => placed([1, 2, 3, 4, 5, 6, 0], 63),
+        StepOrGroup::Verbatim => verbatim_alone(mode),
+        StepOrGroup::SpecialChars => placed([1, 0, 0, 0, 0, 0, 0], 1),
+        StepOrGroup::Quotes => placed([2, 0, 0, 0, 0, 0, 0], 2),
+        StepOrGroup::Attributes => placed([3, 0, 0, 0, 0, 0, 0], 4),
+        StepOrGroup::Replacements => placed([4, 0, 0, 0, 0, 0, 0], 8),
+        StepOrGroup::Macros => placed([5, 0, 0, 0, 0, 0, 0], 16),
+        StepOrGroup::PostReplacements => placed([6, 0, 0, 0, 0, 0, 0], 32),
+        StepOrGroup::Callouts => placed([7, 0, 0, 0, 0, 0, 0], 64),
+    }
+}
+
+fn inserts(strategy: Strategy) -> bool
+    ensures { λ r. ⌜ r ≡ inserts strategy ⌝ }
+{
+    match strategy {
+        Strategy::Insert => true,
+        Strategy::Prepend => false,
+        Strategy::Remove => false,
+    }
+}
+
+// A name. A held set with no flag is empty, and an insert makes of it the set of the name alone, which is known.
+pub fn enter(mode: Mode, strategy: Strategy, step: StepOrGroup, set: Substitutions) -> Substitutions
+    requires { ⌜ held set ≡ true ⌝ }
+    ensures { λ r. ⌜ r ≡ entered mode strategy (kindsOf mode step) set ⌝ }
+    ensures held { λ r. ⌜ held r ≡ true ⌝ }
+{
+    if set.flags == 0 {
+        if inserts(strategy) {
+            return alone(mode, step);
+        }
+    }
+    enter_kinds(mode, strategy, step, set)
 }

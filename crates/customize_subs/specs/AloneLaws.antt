@@ -1,0 +1,103 @@
+-- A name that is inserted into the empty set.
+use Prim.Native.Nat.{ℕ, zero, suc, _<_, _/_, _%_}
+use native.Mathlib.Nat.{zero-div}
+use native.Mathlib.Omega.{arith}
+use mathlib.Core.Bool.{Bool, true, false, false≢true}
+use mathlib.Core.List.{List, [], _∷_}
+use mathlib.Core.Path.{_≡_, refl, sym, ap, _∙_}
+use lib.Dec.{eqb}
+use lib.ListN.{length, getD}
+use lib.Seq.{ext-getD}
+use borrow.Author.Tests.{eqb-true, eqb-false}
+use Rattle.substitutions.specs.declared.Substitutions.{Substitutions}
+use Rattle.substitutions.specs.declared.Mode.{Mode}
+use Rattle.substitutions.specs.declared.Mode.the-variants.{Port, Sheet}
+use Rattle.substitutions.specs.Kinds.{flagOf, flagged, one, each, sum}
+use Rattle.substitutions.specs.Held.{times, small, empty, packed, once, covered, spare, spares, held}
+use Rattle.substitutions.specs.Moves.{set, empty-set, filled, insertOf}
+use Rattle.substitutions.specs.Reading.{HeldSet, place}
+use Rattle.substitutions.specs.ReadingLaws.{held-read}
+use Rattle.subs_names.specs.declared.StepOrGroup.{StepOrGroup}
+use Rattle.subs_names.specs.declared.StepOrGroup.the-variants.{None, Normal, Verbatim, SpecialChars, Callouts, Quotes, Attributes, Replacements, Macros, PostReplacements}
+use Rattle.customize_subs.specs.declared.Strategy.{Strategy}
+use Rattle.customize_subs.specs.declared.Strategy.the-variants.{Insert, Prepend, Remove}
+use Rattle.customize_subs.specs.Customizing.{kindsOf, entered}
+use Rattle.customize_subs.specs.Walks.{inserts, aloneOf}
+
+-- A held set with no flag is empty, since each kind placed has a flag.
+no-flag : (k : ℕ) → flagged k 0 ≡ false
+unfolding flagged
+no-flag k = rw (zero-div (flagOf k)) refl
+
+abbrev zeros : List ℕ
+zeros = empty-set .places
+
+zero-at : (i : ℕ) → getD zeros i 0 ≡ 0
+zero-at zero = refl
+zero-at (suc zero) = refl
+zero-at (suc (suc zero)) = refl
+zero-at (suc (suc (suc zero))) = refl
+zero-at (suc (suc (suc (suc zero)))) = refl
+zero-at (suc (suc (suc (suc (suc zero))))) = refl
+zero-at (suc (suc (suc (suc (suc (suc zero)))))) = refl
+zero-at (suc (suc (suc (suc (suc (suc (suc i))))))) = refl
+
+module _ (s : Substitutions) (h : held s ≡ true) (f : s .flags ≡ 0) where
+  place-empty : (i : ℕ) → i < 7 → place s i ≡ 0
+  place-empty i lt = go (eqb (place s i) 0) refl
+    where
+      go : (b : Bool) → eqb (place s i) 0 ≡ b → place s i ≡ 0
+      go true e = eqb-true _ _ e
+      go false e =
+          let g = held-read s h .covered i lt (eqb-false _ _ e) in
+          absurd (false≢true (sym (no-flag (place s i)) ∙ ap (flagged (place s i)) (sym f) ∙ g))
+
+  pub flagless-empty : s ≡ empty-set
+  flagless-empty =
+      let seven = held-read s h .seven in
+      let e : s .places ≡ zeros = ext-getD 0 (s .places) zeros seven (λ i lt. place-empty i (omega (arith, seven, lt)) ∙ sym (zero-at i)) in
+      ap (λ (ps : List ℕ). set ps (s .flags)) e ∙ ap (set zeros) f
+
+-- The set of a name alone is what its insert makes of the empty set, and it is held.
+alone-is : (m : Mode) (step : StepOrGroup) → aloneOf m step ≡ entered m Insert (kindsOf m step) empty-set
+unfolding entered insertOf filled flagged
+alone-is Port None = refl
+alone-is Port Normal = refl
+alone-is Port Verbatim = refl
+alone-is Port SpecialChars = refl
+alone-is Port Callouts = refl
+alone-is Port Quotes = refl
+alone-is Port Attributes = refl
+alone-is Port Replacements = refl
+alone-is Port Macros = refl
+alone-is Port PostReplacements = refl
+alone-is Sheet None = refl
+alone-is Sheet Normal = refl
+alone-is Sheet Verbatim = refl
+alone-is Sheet SpecialChars = refl
+alone-is Sheet Callouts = refl
+alone-is Sheet Quotes = refl
+alone-is Sheet Attributes = refl
+alone-is Sheet Replacements = refl
+alone-is Sheet Macros = refl
+alone-is Sheet PostReplacements = refl
+
+alone-held : (m : Mode) (step : StepOrGroup) → held (aloneOf m step) ≡ true
+unfolding held small packed empty once covered spares spare times each sum flagged
+alone-held m None = refl
+alone-held m Normal = refl
+alone-held Port Verbatim = refl
+alone-held Sheet Verbatim = refl
+alone-held m SpecialChars = refl
+alone-held m Callouts = refl
+alone-held m Quotes = refl
+alone-held m Attributes = refl
+alone-held m Replacements = refl
+alone-held m Macros = refl
+alone-held m PostReplacements = refl
+
+pub enter-alone : (m : Mode) (how : Strategy) (step : StepOrGroup) (s r : Substitutions) → held s ≡ true → s .flags ≡ 0 → inserts how ≡ true → r ≡ aloneOf m step
+    → (r ≡ entered m how (kindsOf m step) s) × (held r ≡ true)
+enter-alone m Insert step s r h f i e = (e ∙ alone-is m step ∙ ap (entered m Insert (kindsOf m step)) (sym (flagless-empty s h f)), ap held e ∙ alone-held m step)
+enter-alone m Prepend step s r h f i e = absurd (false≢true i)
+enter-alone m Remove step s r h f i e = absurd (false≢true i)

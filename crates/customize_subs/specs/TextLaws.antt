@@ -1,7 +1,7 @@
 -- Parts of the text by their places, and laws for each way through the loops that find them.
 use Prim.Native.Nat.{ℕ, zero, suc, _+_, _-_, _≤_, _<_}
 use mathlib.Core.Path.{_≡_, refl, sym, ap, _∙_}
-use mathlib.Core.Bool.{Bool, true, false, cond, and-false, _||_, or-assoc}
+use mathlib.Core.Bool.{Bool, true, false, cond, and-false, _||_, or-assoc, false≢true}
 use mathlib.Core.List.{List, [], _∷_, _++_}
 use native.Mathlib.Omega.{arith}
 use native.Mathlib.Numerals.{add-one}
@@ -48,6 +48,19 @@ module _ (text : List ℕ) (i : ℕ) (lt : i < length text) where
       let t = isModifier (getD text i 0) in
       let rest = modified (drop (i + 1) text) in
       ap (λ (x : Bool). x || rest) (found-or f t le .1) ∙ or-assoc (eqb f 1) t rest ∙ ap (λ (x : Bool). eqb f 1 || x) (sym modified-next) ∙ h
+
+pub modified-begins : (text : List ℕ) → isModifier (getD text 0 0) ≡ true → modified text ≡ true
+unfolding modified
+modified-begins [] e = absurd (false≢true e)
+modified-begins (b ∷ bs) e = rw e
+
+pub begins-none : (text : List ℕ) → length text ≡ 0 → false ≡ isModifier (getD text 0 0)
+begins-none [] e = refl
+begins-none (b ∷ bs) e = absurd (omega (arith, e))
+
+pub one-is : (t : Bool) → eqb (one t) 1 ≡ t
+one-is true = refl
+one-is false = refl
 
 pub modified-end : (text : List ℕ) (i : ℕ) → length text ≤ i → false ≡ modified (drop i text)
 unfolding modified

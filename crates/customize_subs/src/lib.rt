@@ -2,6 +2,7 @@
 mod parts;
 mod steps;
 
+use crate::parts::begins_modified;
 use crate::parts::has_modifier;
 use crate::parts::name_at;
 use crate::parts::next_comma;
@@ -33,6 +34,9 @@ fn start_of(set: Substitutions, text: &[u8]) -> Substitutions
     ensures { λ r. ⌜ r ≡ startOf set (now (text .entry)) ⌝ }
     ensures held { λ r. ⌜ held r ≡ true ⌝ }
 {
+    if begins_modified(text) {
+        return set;
+    }
     if has_modifier(text) {
         return set;
     }

@@ -3,7 +3,7 @@ use crate::Strategy;
 use substitutions::Mode;
 ghost use mathlib.Core.Path.{_≡_};
 ghost use Prim.Native.Nat.{_≤_, _<_, _+_};
-ghost use lib.ListN.{length, drop};
+ghost use lib.ListN.{length, drop, getD};
 ghost use Rattle.substitutions.specs.Kinds.{one};
 ghost use Rattle.customize_subs.specs.Text.{front, back, modified};
 ghost use Rattle.customize_subs.specs.Customizing.{partOf, strategyOf, nameOf};
@@ -60,6 +60,16 @@ pub fn has_modifier(text: &[u8]) -> bool
         i = i + 1;
     }
     found == 1
+}
+
+// Whether the text begins with + or -, as most do that hold one.
+pub fn begins_modified(text: &[u8]) -> bool
+    ensures { λ r. ⌜ r ≡ isModifier (getD (now (text .entry)) 0 0) ⌝ }
+{
+    if text.len() == 0 {
+        return false;
+    }
+    modifier(text[0]) == 1
 }
 
 // The first place from `start` on that holds no space, or `end`.

@@ -322,6 +322,11 @@ fn main() -> ExitCode {
     let texts = [
         ("no subs attribute", None),
         ("one name", Some("quotes")),
+        ("a group", Some("normal")),
+        ("one more", Some("+attributes")),
+        ("one less", Some("-quotes")),
+        ("one in front", Some("attributes+")),
+        ("two names", Some("quotes,macros")),
         ("three parts", Some("attributes+,+replacements,-callouts")),
         ("120 parts", Some(many_parts.as_str())),
         ("the longest text", Some(longest.as_str())),

@@ -20,9 +20,9 @@ use Rattle.substitutions.specs.ReadingLaws.{held-read}
 use Rattle.subs_names.specs.declared.StepOrGroup.{StepOrGroup}
 use Rattle.subs_names.specs.declared.StepOrGroup.the-variants.{None, Normal, Verbatim, SpecialChars, Callouts, Quotes, Attributes, Replacements, Macros, PostReplacements}
 use Rattle.customize_subs.specs.declared.Strategy.{Strategy}
-use Rattle.customize_subs.specs.declared.Strategy.the-variants.{Insert, Prepend, Remove}
+use Rattle.customize_subs.specs.declared.Strategy.the-variants.{Insert}
 use Rattle.customize_subs.specs.Customizing.{kindsOf, entered}
-use Rattle.customize_subs.specs.Walks.{inserts, aloneOf}
+use Rattle.customize_subs.specs.Walks.{aloneOf}
 
 -- A held set with no flag is empty, since each kind placed has a flag.
 no-flag : (k : ℕ) → flagged k 0 ≡ false
@@ -96,8 +96,9 @@ alone-held m Replacements = refl
 alone-held m Macros = refl
 alone-held m PostReplacements = refl
 
-pub enter-alone : (m : Mode) (how : Strategy) (step : StepOrGroup) (s r : Substitutions) → held s ≡ true → s .flags ≡ 0 → inserts how ≡ true → r ≡ aloneOf m step
+pub enter-alone : (m : Mode) (how : Strategy) (step : StepOrGroup) (s r : Substitutions) → held s ≡ true → s .flags ≡ 0 → how ≡ Insert → r ≡ aloneOf m step
     → (r ≡ entered m how (kindsOf m step) s) × (held r ≡ true)
-enter-alone m Insert step s r h f i e = (e ∙ alone-is m step ∙ ap (entered m Insert (kindsOf m step)) (sym (flagless-empty s h f)), ap held e ∙ alone-held m step)
-enter-alone m Prepend step s r h f i e = absurd (false≢true i)
-enter-alone m Remove step s r h f i e = absurd (false≢true i)
+enter-alone m how step s r h f i e = (
+  e ∙ alone-is m step ∙ ap (entered m Insert (kindsOf m step)) (sym (flagless-empty s h f)) ∙ ap (λ (x : Strategy). entered m x (kindsOf m step) s) (sym i),
+  ap held e ∙ alone-held m step,
+)

@@ -1,7 +1,7 @@
 -- Parts by their places in the text, as the code finds them, and what it tests of a move. No public contract speaks of these: the laws tie them to `Text`
 -- and `Customizing`.
 use Prim.Native.Nat.{ℕ, suc, _-_}
-use mathlib.Core.Bool.{Bool, true, false, not, cond, _||_}
+use mathlib.Core.Bool.{Bool, false, not, cond, _||_}
 use mathlib.Core.List.{List, [], _∷_}
 use lib.Dec.{eqb, leb}
 use lib.ListN.{length, take, drop}
@@ -38,12 +38,6 @@ abbrev pub stays : Strategy → ℕ → Substitutions → Bool
 stays Insert k s = flagged k (s .flags)
 stays Prepend k s = false
 stays Remove k s = not (flagged k (s .flags))
-
--- A move that inserts.
-abbrev pub inserts : Strategy → Bool
-inserts Insert = true
-inserts Prepend = false
-inserts Remove = false
 
 -- The set of a name alone.
 abbrev pub aloneOf : Mode → StepOrGroup → Substitutions

@@ -15,7 +15,7 @@ ghost use Rattle.substitutions.specs.Kinds.{numberOf};
 ghost use Rattle.substitutions.specs.Held.{held};
 ghost use Rattle.customize_subs.specs.Customizing.{moveOf, verbatimOf, kindsOf, entered};
 ghost use Rattle.substitutions.specs.Moves.{set};
-ghost use Rattle.customize_subs.specs.Walks.{stays, inserts, aloneOf};
+ghost use Rattle.customize_subs.specs.Walks.{stays, aloneOf};
 
 // Whether a move leaves the set as it is: an insert of what is in it, a remove of what is not.
 fn stays(strategy: Strategy, set: Substitutions, sub: Subs) -> bool
@@ -145,16 +145,6 @@ pub fn alone(mode: Mode, step: StepOrGroup) -> Substitutions
     }
 }
 
-fn inserts(strategy: Strategy) -> bool
-    ensures { λ r. ⌜ r ≡ inserts strategy ⌝ }
-{
-    match strategy {
-        Strategy::Insert => true,
-        Strategy::Prepend => false,
-        Strategy::Remove => false,
-    }
-}
-
 // A name. A held set with no flag is empty, and an insert makes of it the set of the name alone, which is known.
 pub fn enter(mode: Mode, strategy: Strategy, step: StepOrGroup, set: Substitutions) -> Substitutions
     requires { ⌜ held set ≡ true ⌝ }
@@ -162,7 +152,7 @@ pub fn enter(mode: Mode, strategy: Strategy, step: StepOrGroup, set: Substitutio
     ensures held { λ r. ⌜ held r ≡ true ⌝ }
 {
     if set.flags == 0 {
-        if inserts(strategy) {
+        if let Strategy::Insert = strategy {
             return alone(mode, step);
         }
     }

@@ -226,6 +226,11 @@ divided by the reader's.
 }
 
 const FROM_META: &str = "
+On the normal set: one name is `quotes`, a group `normal`, one more `+attributes`, one less `-quotes`,
+one in front `attributes+`, two names `quotes,macros`, three parts `attributes+,+replacements,-callouts`;
+120 parts are `quotes,-macros,attributes+,normal,` thirty times, the longest text has `post_replacements`
+3,640 times.
+
 The Rust is handed a set that it has made itself. The reader checks the set that it is lent (10, and 11
 in sheet mode), and a call with no subs attribute does little else.
 ";

@@ -13,7 +13,7 @@ use Rattle.attr_ir.specs.declared.Sight.{Sight}
 use Rattle.attr_ir.specs.declared.Sight.the-variants.{Is, On}
 use Rattle.token.specs.Kind.{attrRef, dots, hash, percent, equalSigns, doubleQuote, singleQuote, whitespace}
 use Rattle.token.specs.Line.{Token, lineOf, tokenAt}
-use Rattle.token.specs.LineLaws.{Lent}
+use Rattle.token.specs.Lent.{Lent}
 use Rattle.token.specs.Run.{kept, ofOne, isEquals}
 use Rattle.token.specs.Names.{sameBytes}
 use Rattle.token.specs.NamesLaws.{one-is, lexeme-one, lexeme-length, one-byte, not-one}

@@ -19,7 +19,7 @@ ghost use Prim.Native.Nat.{ℕ, _+_, _≤_, _<_};
 ghost use lib.Dec.{eqb};
 ghost use lib.ListN.{length};
 ghost use Rattle.token.specs.Line.{lineOf, tokenAt};
-ghost use Rattle.token.specs.LineLaws.{Lent};
+ghost use Rattle.token.specs.Lent.{Lent};
 ghost use Rattle.token.specs.Kind.{dots, hash, percent};
 ghost use Rattle.token.specs.Run.{kept, isEquals, ofOne};
 ghost use Rattle.token.specs.Names.{sameBytes};

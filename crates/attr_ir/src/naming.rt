@@ -15,7 +15,7 @@ ghost use mathlib.Core.List.{List};
 ghost use Prim.Native.Nat.{ℕ, _+_, _≤_, _<_};
 ghost use lib.ListN.{length};
 ghost use Rattle.token.specs.Line.{lineOf};
-ghost use Rattle.token.specs.LineLaws.{Lent};
+ghost use Rattle.token.specs.Lent.{Lent};
 ghost use Rattle.token.specs.Run.{isWhitespace, without, kept, runOf};
 ghost use Rattle.token.specs.Names.{bytes};
 ghost use Rattle.token.specs.Parts.{Part};

@@ -16,8 +16,8 @@ use Rattle.token.specs.Kept.{none-start, none-skip, none-more, found-here, foun
 use Rattle.token.specs.Parts.{FoundAt}
 use Rattle.token.specs.NamesLaws.{kind-of}
 use Rattle.row.specs.declared.Row.{Row}
-use Rattle.row.specs.Row.{width, numbers, oneRun, diagnostic, ident}
-use Rattle.row.specs.Laws.{Writes, writes-start, writes-part, writes-wrote, Wrote, wrote-none, wrote-one}
+use Rattle.row.specs.Row.{width, numbers, oneRun, diagnostic, ident, Wrote}
+use Rattle.row.specs.Laws.{Writes, writes-start, writes-part, writes-wrote, wrote-none, wrote-one}
 use Rattle.attribute.specs.declared.Written.{Written}
 use Rattle.attribute.specs.Attribute.{Read, oneRow, isStop, unlessEmpty, groups, groupRows, idRead}
 use Rattle.attribute.specs.Parts.{WroteId, StopsAt}

@@ -7,7 +7,7 @@ use lib.ListN.{length, getD}
 use Rattle.token.specs.Kind.{attrRef}
 use Rattle.token.specs.Line.{lineOf, tokenAt}
 use Rattle.token.specs.Kept.{FoundIn}
-use Rattle.row.specs.Laws.{Wrote}
+use Rattle.row.specs.Row.{Wrote}
 use Rattle.attribute.specs.declared.Written.{Written}
 use Rattle.attribute.specs.Attribute.{Read, isStop}
 

@@ -10,6 +10,7 @@ use lib.ListN.{length, getD, drop, drop-of-length-le}
 use lib.Seq.{drop-cons}
 use borrow.Author.Tests.{ne-eqb, eqb-true, eqb-false, lt-ltb, le-ltb, ltb-true, ltb-false}
 use Rattle.token.specs.Kind.{largest, closeBracket, openBracket}
+use Rattle.token.specs.Lent.{Lent}
 use Rattle.token.specs.Line.{lineOf, mostTokens, mostBytes, someOver, misplaced, check, refusal, isBlockAttrList}
 
 -- ---- 5 and 6 in words
@@ -155,14 +156,6 @@ unfolding misplaced
 passed-end ps i size end h = rw (drop-of-length-le ps h) (or-none (ltb size end))
 
 -- ---- a line that is not refused
-
--- at most 4,096 tokens and 65,535 bytes; two numbers for each token, none past the text
-pub record Lent (kinds text pairs : List ℕ) : Type 0 where
-  pub some : 0 < length kinds
-  pub few : length kinds ≤ mostTokens
-  pub short : length text ≤ mostBytes
-  pub paired : length pairs ≡ 2 * length kinds
-  pub within : (p : ℕ) → p < length kinds → getD pairs (2 * p) 0 + getD pairs (2 * p + 1) 0 ≤ length text
 
 check-none : (t : Bool) (n rest : ℕ) → 0 < n → check t n rest ≡ 0 → (t ≡ false) × (rest ≡ 0)
 check-none true n rest h e = absurd (omega arith)

@@ -11,9 +11,10 @@ use Rattle.token.specs.declared.TokenPlace.{TokenPlace}
 use Rattle.token.specs.declared.Run.{Run}
 use Rattle.token.specs.Kind.{closeBracket}
 use Rattle.token.specs.Line.{Line, lineOf, refusal, mostTokens}
-use Rattle.token.specs.LineLaws.{Lent, lent}
+use Rattle.token.specs.Lent.{Lent}
+use Rattle.token.specs.LineLaws.{lent}
 use Rattle.token.specs.Run.{kept, unquote, runOf}
-use Rattle.token.specs.Parts.{Part}
+use Rattle.token.specs.Places.{Part}
 use Rattle.row.specs.declared.Row.{Row}
 use Rattle.row.specs.Row.{width, numbers, allNumbers, oneRun, positional, roomFor, withRows, Fits}
 use Rattle.row.specs.Laws.{wrote-one}

@@ -24,7 +24,8 @@ use Rattle.closing.specs.Closing.{lastBracket, nextBracket}
 use Rattle.closing.specs.Laws.{Found, FoundLast, next-found, last-found}
 use Rattle.attribute.specs.Attribute as one
 use Rattle.attribute.specs.Attribute.{attribute}
-use Rattle.attribute.specs.Laws.{orOne, rows-few}
+use Rattle.attribute.specs.Laws.{rows-few}
+use Rattle.attribute.specs.Written.{orOne}
 use Rattle.attr_list.specs.Reading.{rowsFrom, listRows, lastBegins, closing}
 
 -- ---- the rows of a list are no more than its tokens through the closing bracket, so a buffer that 7 lets pass has room for them

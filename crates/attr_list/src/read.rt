@@ -22,7 +22,7 @@ ghost use Prim.Native.Nat.{_+_, _*_, _≤_, _<_};
 ghost use lib.ListN.{length};
 ghost use Rattle.token.specs.Kind.{closeBracket};
 ghost use Rattle.token.specs.Line.{lineOf};
-ghost use Rattle.token.specs.LineLaws.{Lent};
+ghost use Rattle.token.specs.Lent.{Lent};
 ghost use Rattle.row.specs.Row.{width};
 ghost use Rattle.delimiters.specs.Count.{kindAt};
 ghost use Rattle.closing.specs.Link.{linkMacro};

@@ -13,7 +13,7 @@ ghost use Rattle.token.specs.Line.{lineOf};
 ghost use Rattle.token.specs.Lent.{Lent};
 ghost use Rattle.token.specs.Run.{kept, quoted};
 ghost use Rattle.attr_ir.specs.Ir.{attrIr, runsOf, tokensOf};
-ghost use Rattle.attr_ir.specs.Parts.{Bounded};
+ghost use Rattle.attr_ir.specs.Places.{Bounded};
 
 mod look;
 mod naming;

@@ -11,7 +11,7 @@ use lib.Seq.{getD-take, length-take-le}
 use Rattle.token.specs.Kind.{word}
 use Rattle.token.specs.Line.{Line, tokenAt, lexemeAt}
 use Rattle.token.specs.Run.{kept, run, emptyRun, runOf, lastOf, trim, trimStart, trimEnd, leave, quoted, unquote}
-use Rattle.token.specs.Kept.{kept-none, kept-one}
+use Rattle.token.specs.KeptLaws.{kept-none, kept-one}
 use Rattle.row.specs.declared.Row.{Row}
 use Rattle.row.specs.Row.{width, oneRun, emptyPositional, positional, withRows, Wrote}
 use Rattle.delimiters.specs.Delimit.{parted}
@@ -20,7 +20,7 @@ use Rattle.attr_ir.specs.Look.{look, sight}
 use Rattle.attr_ir.specs.Ir.{attrIr, irAs}
 use Rattle.attribute.specs.Attribute.{attribute, reading, irRead, oneRow}
 use Rattle.attribute.specs.Laws.{again}
-use Rattle.attribute.specs.Parts.{written}
+use Rattle.attribute.specs.Written.{written}
 use Rattle.attr_list.specs.Reading.{rowsFrom}
 use Rattle.attr_list.specs.Laws.{Listing, listing-comma, listing-end, listing-next, listing-last}
 

@@ -15,7 +15,7 @@ use Rattle.token.specs.Line.{Line, lineOf, refusal, mostTokens}
 use Rattle.token.specs.Lent.{Lent}
 use Rattle.token.specs.LineLaws.{lent}
 use Rattle.token.specs.Run.{kept, unquote, runOf}
-use Rattle.token.specs.Parts.{Part}
+use Rattle.token.specs.Places.{Part}
 use Rattle.row.specs.declared.Row.{Row}
 use Rattle.row.specs.Row.{width, numbers, allNumbers, oneRun, positional, roomFor, withRows, Wrote, Fits}
 use Rattle.row.specs.Laws.{wrote-one}

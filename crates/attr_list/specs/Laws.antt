@@ -21,7 +21,8 @@ use Rattle.delimiters.specs.DivideLaws.{dividing-ascend, dividing-ascend-to, at
 use Rattle.closing.specs.ClosingLaws.{IsBracket}
 use Rattle.attribute.specs.Attribute as one
 use Rattle.attribute.specs.Attribute.{attribute}
-use Rattle.attribute.specs.Laws.{orOne, rows-few}
+use Rattle.attribute.specs.Laws.{rows-few}
+use Rattle.attribute.specs.Written.{orOne}
 use Rattle.attr_list.specs.Reading.{rowsFrom, listRows}
 
 -- ---- the rows of a list are no more than its tokens through the closing bracket, so a buffer that 7 lets pass has room for them

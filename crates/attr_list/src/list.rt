@@ -18,7 +18,7 @@ ghost use Rattle.token.specs.Lent.{line, Lent};
 ghost use Rattle.token.specs.Run.{kept};
 ghost use Rattle.row.specs.Row.{width, withRows, Wrote};
 ghost use Rattle.attribute.specs.Attribute.{attribute};
-ghost use Rattle.attribute.specs.Parts.{written};
+ghost use Rattle.attribute.specs.Written.{written};
 ghost use Rattle.delimiters.specs.Divide.{Ascending};
 ghost use Rattle.attr_list.specs.Reading.{partedRows};
 

@@ -30,9 +30,9 @@ ghost use Rattle.token.specs.Lent.{Lent};
 ghost use Rattle.token.specs.Run.{kept, inRun, upTo, onward};
 ghost use Rattle.row.specs.Row.{width, withRows};
 ghost use Rattle.attr_ir.specs.Look.{isSymbol};
-ghost use Rattle.attr_ir.specs.Parts.{InLine};
+ghost use Rattle.attr_ir.specs.Places.{InLine};
 ghost use Rattle.attribute.specs.Attribute.{attribute, cutRead};
-ghost use Rattle.attribute.specs.Parts.{written};
+ghost use Rattle.attribute.specs.Written.{written};
 
 mod groups;
 mod shorthand;

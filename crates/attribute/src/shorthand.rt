@@ -25,7 +25,7 @@ ghost use Rattle.token.specs.Lent.{Lent};
 ghost use Rattle.token.specs.Run.{kept};
 ghost use Rattle.row.specs.Row.{width};
 ghost use Rattle.attribute.specs.Attribute.{isStop, pieces, shorthandRead};
-ghost use Rattle.attribute.specs.Parts.{WroteId, StopsAt, StopFirst};
+ghost use Rattle.attribute.specs.Written.{WroteId, StopsAt, StopFirst};
 
 pub fn both(a: bool, b: bool) -> bool
     ensures { λ r. ⌜ r ≡ (a && b) ⌝ }

@@ -1,12 +1,12 @@
--- The line that a caller lends, and what is known of it where no check refuses it.
+-- A line on loan: the line that three lent slices are, and what is known of one that is not refused.
 use Prim.Native.Nat.{ℕ, _+_, _*_, _≤_, _<_}
 use mathlib.Core.Path.{_≡_}
 use mathlib.Core.List.{List}
-use lib.ListN.{length, getD}
 use denote.Ref.{RefT, now}
+use lib.ListN.{length, getD}
 use Rattle.token.specs.Line.{Line, lineOf, mostTokens, mostBytes}
 
--- the line of lent kinds, text and pairs
+-- "A line is lent as kinds, text bytes, and pairs of byte offset and length, one per token"
 abbrev pub line : (kinds text pairs : RefT (List ℕ)) → Line
 line kinds text pairs = lineOf (now kinds) (now text) (now pairs)
 

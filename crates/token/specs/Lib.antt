@@ -4,7 +4,8 @@ pub mod Lent
 pub mod Block
 pub mod Run
 pub mod Names
-pub mod Kept
-pub mod Parts
+pub mod Places
+pub mod KeptLaws
+pub mod PlacesLaws
 pub mod LineLaws
 pub mod NamesLaws

@@ -3,6 +3,7 @@
 # lent it; of ⟨Kind text⟩, a token that the harness's plain lexer does not make by itself,
 # Asciidoctor is given the text.
 require 'asciidoctor'
+require 'open3'
 
 KINDS = %i(specialcharacters quotes attributes replacements macros post_replacements callouts).freeze
 STARTS = { 'N' => KINDS[0..5], 'V' => [KINDS[0], KINDS[6]] }.freeze
@@ -132,6 +133,61 @@ def digest
   sum.to_s(16).rjust 16, '0'
 end
 
+# ---- every line of up to so many pieces, put beside what the Rust gives for it
+
+# The pieces of a link in the Rust's words: its positional texts, its named attributes, what follows.
+# Asciidoctor takes the backslash of an escaped bracket off before it reads; here it stays in the run.
+def rust_link line, words
+  return nil if words.start_with?('refused') || words.include?('closed by a token')
+  return [[], {}, line[1..]] if words.start_with? 'no row'
+  words, rest = words.split '; then `', 2
+  rows = words.split '; '
+  texts = rows.grep(/\Apositional `/) {|row| row[12..-2].gsub '\\]', ']' }
+  named = rows.grep(/\A(?:named|role|id|option)/) {|row| row =~ /\A(?:named|role)(?: `(.*?)` =)? `(.*)`\z/ && [$1 || 'role', $2].map {|word| word.gsub '\\]', ']' } }
+  [texts, named.to_h, rest ? rest.chop : '']
+end
+
+def asciidoctor_link line
+  Seen.nodes = []
+  html = Asciidoctor.convert("link:t[#{line}", safe: :safe, backend: 'seen', doctype: :inline)
+  return nil if Seen.nodes.empty?
+  plain = ->(word) { word.gsub('&#8217;', "'") }
+  text, attrs = Seen.nodes[0]
+  numbered, named = attrs.partition {|name, _| Integer === name }
+  texts = numbered.sort.map(&:last).compact.map(&plain)
+  texts = [plain[text]] if numbered.empty? && text != 't'
+  named = named.reject {|name, value| name == 'role' && value == 'bare' }.to_h {|name, value| [name, plain[value]] }
+  [texts, named, html.sub(/.*<\/a>/m, '').gsub('&#8217;', "'")]
+end
+
+# The classes of docs/DIFFERENCES.md that a link's line belongs to, by its text alone.
+def link_classes line
+  first = line.index(/(?<!\\)\]/) || line.size
+  inside = line[0...first]
+  classes = []
+  classes << 'L1' if inside.size > 1 && inside[0] == inside[-1] && %w(" ').include?(inside[0])
+  classes << 'L3' if line =~ /(?<!\\)\[.*\]./
+  classes << 'L6' if line.end_with? '\\]'
+  return classes unless inside.include? '='
+  classes << 'L2, L11' if inside =~ /["']/
+  classes << 'L4' if inside =~ /[^\w=,\s"'\]]\w*\s*=/ || inside =~ /\[.*=/
+  classes << 'L5' if inside.include? '=='
+  classes << 'L10' if inside.include? '\\]'
+  classes
+end
+
+# Of every such line: how many differ, and whether each of these is of a class.
+def searched text
+  _, longest, *pieces = text.split(/ /)
+  pieces = pieces.map {|piece| piece.tr '␣', ' ' }
+  lines = (0..longest.to_i).flat_map {|size| size == 0 ? [''] : pieces.product(*[pieces] * (size - 1)).map(&:join) }.map {|line| "#{line}]" }
+  rust, = Open3.capture2 File.join(__dir__, 'run'), '--lines', 'link', stdin_data: lines.join("\n")
+  differ = lines.zip(rust.lines chomp: true).reject {|line, words| (rust_link line, words) == (asciidoctor_link line) }
+  none = differ.map(&:first).select {|line| (link_classes line).empty? }
+  Asciidoctor::LoggerManager.logger.clear
+  "#{differ.size} differ, #{none.empty? ? 'each of a class' : "of no class: #{none.first(9).join '  '}"}"
+end
+
 def asciidoctor entry, text
   logger = Asciidoctor::LoggerManager.logger = Asciidoctor::MemoryLogger.new
   Seen.nodes = []
@@ -148,6 +204,7 @@ def asciidoctor entry, text
     when 'subs' then subs line
     when 'on' then block_subs(*line.split(/ /, 2))
     when 'texts' then digest
+    when 'lines' then searched text
     else abort "differences: no such claim: #{entry} #{text}"
     end
   warnings = logger.messages.map {|message| Hash === message[:message] ? message[:message][:text] : message[:message].to_s }

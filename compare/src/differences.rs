@@ -10,11 +10,13 @@
 //!   subs                         `N` or `V` and a text in backticks: the set that it makes
 //!   on                           a block's name and a block attribute line above it
 //!   texts                        the texts of `explained.rs`
+//!   lines                        an entry, a length and pieces: every line of up to so many pieces
+//!                                and a closing bracket; ␣ is a blank. Recorded by a digest
 
 use std::collections::HashMap;
 
 use crate::check::{Worker, expected_set};
-use crate::explained::{self, written};
+use crate::explained::{self, Digest, written};
 use crate::library::Library;
 use crate::lines::LineBuf;
 use crate::model::ROW;
@@ -74,6 +76,7 @@ fn our_sides(claim: &Claim<'_>, worker: &mut Worker<'_>) -> Result<Vec<(&'static
             Ok(vec![("Rust", give(Mode::Port)), ("sheet", give(Mode::Sheet))])
         }
         "texts" => explained::explained(worker),
+        "lines" => every_line(&text, worker).ok_or_else(unknown)?,
         "is" => {
             let line = LineBuf::lex(&text);
             worker.is_block_attr_list(line.lent())?;
@@ -90,6 +93,40 @@ fn our_sides(claim: &Claim<'_>, worker: &mut Worker<'_>) -> Result<Vec<(&'static
             Ok(vec![("Rust", words::answer(entry, &line))])
         }
     }
+}
+
+/// Every line of up to so many pieces and a closing bracket, the shorter ones first.
+fn lines_of(longest: usize, pieces: &[String]) -> Vec<String> {
+    let mut lines = vec![String::new()];
+    let mut from = 0;
+    for _ in 0..longest {
+        let to = lines.len();
+        for at in from..to {
+            for piece in pieces {
+                lines.push(format!("{}{piece}", lines[at]));
+            }
+        }
+        from = to;
+    }
+    lines.into_iter().map(|line| line + "]").collect()
+}
+
+/// How many lines there are, and the digest of the Rust's answers; None if the claim is none.
+fn every_line(text: &str, worker: &mut Worker<'_>) -> Option<Result<Vec<(&'static str, String)>, Box<String>>> {
+    let mut words = text.split(' ');
+    let entry = words::entry_of(words.next()?)?;
+    let longest = words.next()?.parse().ok()?;
+    let pieces: Vec<String> = words.map(|piece| piece.replace('␣', " ")).collect();
+    let lines = lines_of(longest, &pieces);
+    let mut digest = Digest::new();
+    for text in &lines {
+        let line = LineBuf::lex(text);
+        if let Err(words) = worker.list(entry, line.lent(), ROW * line.kinds.len(), 1) {
+            return Some(Err(words));
+        }
+        digest.add(&words::answer(entry, &line));
+    }
+    Some(Ok(vec![("lines", lines.len().to_string()), ("Rust", digest.written())]))
 }
 
 /// The record with our sides made anew.

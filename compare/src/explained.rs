@@ -173,14 +173,22 @@ pub fn texts() -> Vec<String> {
 
 pub const LETTERS: [&str; 2] = ["N", "V"];
 
-/// FNV-1a over 64 bits: a text and its answer after the other.
-struct Digest(u64);
+/// FNV-1a over 64 bits, line after line.
+pub struct Digest(u64);
 
 impl Digest {
-    fn add(&mut self, letter: &str, text: &str, answer: Set) {
-        for byte in format!("{letter} `{text}` {}\n", written(answer)).bytes() {
+    pub fn new() -> Self {
+        Digest(0xcbf2_9ce4_8422_2325)
+    }
+
+    pub fn add(&mut self, line: &str) {
+        for byte in line.bytes().chain([b'\n']) {
             self.0 = (self.0 ^ u64::from(byte)).wrapping_mul(0x0000_0100_0000_01b3);
         }
+    }
+
+    pub fn written(&self) -> String {
+        format!("{:016x}", self.0)
     }
 }
 
@@ -189,7 +197,7 @@ impl Digest {
 pub fn explained(worker: &mut Worker<'_>) -> Result<Vec<(&'static str, String)>, Box<String>> {
     let texts = texts();
     let readings = [OFF, SHEET, ALL];
-    let mut digests = readings.map(|_| Digest(0xcbf2_9ce4_8422_2325));
+    let mut digests = readings.map(|_| Digest::new());
     let mut needed = [0u64; 7];
     for letter in LETTERS {
         let given = start(letter).expect("a letter of the page");
@@ -197,7 +205,7 @@ pub fn explained(worker: &mut Worker<'_>) -> Result<Vec<(&'static str, String)>,
             let answers = readings.map(|on| customized(on, given, text));
             agrees(worker, given, text, answers)?;
             for (digest, answer) in digests.iter_mut().zip(answers) {
-                digest.add(letter, text, answer);
+                digest.add(&format!("{letter} `{text}` {}", written(answer)));
             }
             for (cause, count) in needed.iter_mut().enumerate() {
                 // without A4 the spaces at the ends still go by A3, and without A3 by A4
@@ -209,7 +217,7 @@ pub fn explained(worker: &mut Worker<'_>) -> Result<Vec<(&'static str, String)>,
     if let Some(cause) = needed.iter().position(|count| *count == 0) {
         return Err(Box::new(format!("no text needs the cause {}\n", CAUSES[cause])));
     }
-    let [off, sheet, all] = digests.map(|digest| format!("{:016x}", digest.0));
+    let [off, sheet, all] = digests.map(|digest| digest.written());
     let needed: Vec<String> = CAUSES.iter().zip(needed).map(|(cause, n)| format!("{cause} {n}")).collect();
     Ok(vec![
         ("texts", (LETTERS.len() * texts.len()).to_string()),

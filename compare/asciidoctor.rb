@@ -11,17 +11,18 @@ STARTS = { 'N' => KINDS[0..5], 'V' => [KINDS[0], KINDS[6]] }.freeze
 # What a block of a claim `on` is made of, below its attribute line.
 BLOCKS = {
   'paragraph' => %w(text),
-  'paragraph-with-mark' => ['text <1>'],
+  'paragraph-with-a-mark' => ['text <1>'],
   'listing' => %w(---- code ----),
-  'listing-with-mark' => ['----', 'code <1>', '----'],
-  'literal' => %w(.... text ....),
+  'listing-with-a-mark' => ['----', 'code <1>', '----'],
+  'literal-block' => %w(.... text ....),
   'verse' => %w(____ text ____),
-  'pass' => %w(++++ text ++++),
-  'highlighted' => ['----', 'code <1>', '----'],
+  'passthrough-block' => %w(++++ text ++++),
+  'highlighted-listing' => ['----', 'code <1>', '----'],
   'example' => %w(==== text ====),
+  'admonition' => %w(==== text ====),
   'sidebar' => %w(**** text ****),
   'quote' => %w(____ text ____),
-  'open' => %w(-- text --),
+  'open-block' => %w(-- text --),
   'list' => ['* text'],
   'table' => ['|===', '|text', '|===']
 }.freeze
@@ -104,13 +105,13 @@ end
 
 # The subs of a block, and of what stands in it.
 def block_subs name, line
-  source = name == 'highlighted' ? ":source-highlighter: leaves\n\n" : ''
+  source = name == 'highlighted-listing' ? ":source-highlighter: leaves\n\n" : ''
   document = Asciidoctor.load("#{source}[#{line}\n#{BLOCKS[name].join "\n"}", safe: :safe)
   block = document.blocks[0]
   if block.context == :table
-    "of a cell #{digits block.rows.body[0][0].subs}"
+    "in a cell #{digits block.rows.body[0][0].subs}"
   elsif block.content_model == :compound || block.context == :ulist
-    "of its own none; inside #{digits block.blocks[0].subs}"
+    "inside it #{digits block.blocks[0].subs}"
   else
     digits block.subs
   end

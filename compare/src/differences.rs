@@ -37,6 +37,17 @@ struct Claim<'r> {
     sides: Vec<(&'r str, &'r str)>,
 }
 
+impl<'r> Claim<'r> {
+    fn side(&self, name: &str) -> Option<&'r str> {
+        self.sides.iter().find(|(who, _)| *who == name).map(|(_, words)| *words)
+    }
+
+    /// Asciidoctor's answer without its warnings.
+    fn asciidoctor(&self) -> &'r str {
+        self.side(ASCIIDOCTOR).and_then(|words| words.split(" (").next()).unwrap_or_default()
+    }
+}
+
 /// The heading, and the claims.
 fn parse(record: &str) -> Result<(&str, Vec<Claim<'_>>), String> {
     let (heading, rest) = record.split_once('\n').ok_or("the record is empty")?;
@@ -149,8 +160,7 @@ pub fn our_side(record: &str, library: &Library) -> Result<String, String> {
 
 /// Holds the record to what is given now, and the page to the record. Says how many claims.
 pub fn check(library: &Library) -> Result<String, String> {
-    let read = |path| std::fs::read_to_string(path).map_err(|e| format!("cannot read {path}: {e}"));
-    let record = read(RECORD)?;
+    let record = std::fs::read_to_string(RECORD).map_err(|e| format!("cannot read {RECORD}: {e}"))?;
     let now = our_side(&record, library)?;
     if let Some((was, is)) = record.lines().zip(now.lines()).find(|(was, is)| was != is) {
         return Err(format!("the record says  {was}\n  now it is         {is}"));
@@ -158,27 +168,32 @@ pub fn check(library: &Library) -> Result<String, String> {
     if record.lines().count() != now.lines().count() {
         return Err("the record has a side too many or too few".to_string());
     }
-    let (_, claims) = parse(&record)?;
+    let (claims, rows) = check_page(&record)?;
+    Ok(format!("{claims} claims as recorded, {rows} table rows of the page among them"))
+}
+
+/// Holds the page to the record. Gives how many claims and table rows.
+pub fn check_page(record: &str) -> Result<(usize, usize), String> {
+    let (_, claims) = parse(record)?;
     for claim in &claims {
-        let side = |name| claim.sides.iter().find(|(who, _)| *who == name).map(|(_, words)| *words);
-        let given = side(ASCIIDOCTOR).ok_or(format!("Asciidoctor's side is missing: {}", claim.head))?;
-        if claim.entry == "texts" && side("A1 to A7") != Some(given) {
+        let given = claim.side(ASCIIDOCTOR).ok_or(format!("Asciidoctor's side is missing: {}", claim.head))?;
+        if claim.entry == "texts" && claim.side("A1 to A7") != Some(given) {
             return Err("with every cause switched on, the texts are not read as Asciidoctor reads them".into());
         }
     }
-    let rows = page(&read(PAGE)?, &claims)?;
-    Ok(format!("{} claims as recorded, {rows} table rows of the page among them", claims.len()))
+    let text = std::fs::read_to_string(PAGE).map_err(|e| format!("cannot read {PAGE}: {e}"))?;
+    Ok((claims.len(), page(&text, &claims)?))
 }
 
-/// A line of the page as the record writes it, in the tables of lines: without the opening
-/// bracket, a tab written out.
+/// A line of the page as the record writes it: a tab written out, and nothing before a link's
+/// bracket.
 fn plain(span: &str) -> String {
-    span.replace('⇥', "<TAB>")
+    span.strip_prefix("link:t[").unwrap_or(span).replace('⇥', "<TAB>")
 }
 
 /// Every line and every subs text in a table of the page is a claim, the sets in the columns port,
-/// sheet and Asciidoctor are those recorded, and so is whatever stands between backticks in the
-/// columns of the Rust and of Asciidoctor. Gives how many table rows.
+/// sheet and Asciidoctor are those recorded, so are those of a block, and so is whatever stands
+/// between backticks in the columns of the Rust and of Asciidoctor. Gives how many table rows.
 fn page(page: &str, claims: &[Claim<'_>]) -> Result<usize, String> {
     let mut by_text: HashMap<String, Vec<&Claim<'_>>> = HashMap::new();
     for claim in claims {
@@ -209,12 +224,11 @@ fn page(page: &str, claims: &[Claim<'_>]) -> Result<usize, String> {
         let missing = |what: &str| format!("{what} stands on the page and in no claim of the record: {line}");
         if let Some(text) = cell("text") {
             let found = by_text.get(&plain(text)).and_then(|found| found.first()).ok_or(missing(text))?;
-            for (column, who) in [("port", "Rust"), ("sheet", "sheet"), (ASCIIDOCTOR, ASCIIDOCTOR)] {
-                // a warning may stand behind the set
-                let recorded = found.sides.iter().find(|(name, _)| *name == who);
-                let recorded = recorded.and_then(|(_, words)| words.split(" (").next());
-                if cell(column).is_some() && cell(column) != recorded {
-                    return Err(format!("the page does not say what the record says of {text}: {line}"));
+            let recorded =
+                [("port", found.side("Rust")), ("sheet", found.side("sheet")), (ASCIIDOCTOR, Some(found.asciidoctor()))];
+            for (column, words) in recorded {
+                if cell(column) != words {
+                    return Err(format!("the record has {words:?} in the column {column}: {line}"));
                 }
             }
             if found.class != class {
@@ -231,6 +245,14 @@ fn page(page: &str, claims: &[Claim<'_>]) -> Result<usize, String> {
                 found.extend(claims.copied());
                 if found.len() == before {
                     return Err(missing(span));
+                }
+            }
+            if let Some(block) = cell("block") {
+                let name = block.replace(", ", "-").replace(' ', "-");
+                let on = |claim: &&&Claim<'_>| claim.entry == "on" && claim.text.starts_with(&format!("{name} "));
+                let recorded = found.iter().find(on).ok_or(missing(lines))?.asciidoctor();
+                if cell(ASCIIDOCTOR) != Some(recorded) {
+                    return Err(format!("the record has {recorded}: {line}"));
                 }
             }
             for (column, who) in [("the Rust", "Rust"), (ASCIIDOCTOR, ASCIIDOCTOR)] {

@@ -173,6 +173,7 @@ fn usage() -> ExitCode {
                                           the line, opening bracket and all, is a block attribute list)
        compare --lines ENTRY              the same for each line of the standard input, in words
        compare --our-side                 differences.txt with the sides of the Rust and of this reader made anew
+       compare --page                     whether every table of docs/DIFFERENCES.md is as differences.txt records
        compare --texts                    the subs texts by which the differences are explained"
     );
     ExitCode::from(2)
@@ -203,6 +204,7 @@ fn main() -> ExitCode {
             ("--lines", Some(entry)) if args.len() == at + 2 => return show_lines(entry),
             ("--texts", None) => return show_texts(),
             ("--our-side", None) => return show_our_side(),
+            ("--page", None) => return show_page(),
             _ => return usage(),
         }
         at += 1;
@@ -325,6 +327,21 @@ fn show_our_side() -> ExitCode {
         }
         Err(words) => {
             eprintln!("compare: {}: {words}", differences::RECORD);
+            ExitCode::FAILURE
+        }
+    }
+}
+
+/// Whether the page is as the record says.
+fn show_page() -> ExitCode {
+    let record = std::fs::read_to_string(differences::RECORD).map_err(|e| e.to_string());
+    match record.and_then(|record| differences::check_page(&record)) {
+        Ok((claims, rows)) => {
+            println!("docs/DIFFERENCES.md: {rows} table rows are as recorded, {claims} claims in all");
+            ExitCode::SUCCESS
+        }
+        Err(words) => {
+            println!("docs/DIFFERENCES.md does not hold: {words}");
             ExitCode::FAILURE
         }
     }

@@ -127,6 +127,13 @@ fn starting_sets() {
     assert_eq!(Set::attr_value(), set([1, 2, 3, 4, 0, 0, 0], 15));
     assert_eq!(Set::only_special_chars(), set([1, 0, 0, 0, 0, 0, 0], 1));
     assert_eq!(Set::all(), set([1, 2, 3, 4, 5, 6, 7], 127));
-    let all = [Set::none(), Set::normal(), Set::verbatim(), Set::attr_value(), Set::only_special_chars(), Set::all()];
+    let all = [
+        Set::none(),
+        Set::normal(),
+        Set::verbatim(),
+        Set::attr_value(),
+        Set::only_special_chars(),
+        Set::all(),
+    ];
     assert!(all.iter().all(|set| set.refusal_sheet().is_none()));
 }

@@ -123,7 +123,10 @@ fn lines_of(longest: usize, pieces: &[String]) -> Vec<String> {
 }
 
 /// How many lines there are, and the digest of the Rust's answers; None if the claim is none.
-fn every_line(text: &str, worker: &mut Worker<'_>) -> Option<Result<Vec<(&'static str, String)>, Box<String>>> {
+fn every_line(
+    text: &str,
+    worker: &mut Worker<'_>,
+) -> Option<Result<Vec<(&'static str, String)>, Box<String>>> {
     let mut words = text.split(' ');
     let entry = words::entry_of(words.next()?)?;
     let longest = words.next()?.parse().ok()?;
@@ -176,9 +179,12 @@ pub fn check(library: &Library) -> Result<String, String> {
 pub fn check_page(record: &str) -> Result<(usize, usize), String> {
     let (_, claims) = parse(record)?;
     for claim in &claims {
-        let given = claim.side(ASCIIDOCTOR).ok_or(format!("Asciidoctor's side is missing: {}", claim.head))?;
+        let given =
+            claim.side(ASCIIDOCTOR).ok_or(format!("Asciidoctor's side is missing: {}", claim.head))?;
         if claim.entry == "texts" && claim.side("A1 to A7") != Some(given) {
-            return Err("with every cause switched on, the texts are not read as Asciidoctor reads them".into());
+            return Err(
+                "with every cause switched on, the texts are not read as Asciidoctor reads them".into()
+            );
         }
     }
     let text = std::fs::read_to_string(PAGE).map_err(|e| format!("cannot read {PAGE}: {e}"))?;
@@ -197,7 +203,11 @@ fn plain(span: &str) -> String {
 fn page(page: &str, claims: &[Claim<'_>]) -> Result<usize, String> {
     let mut by_text: HashMap<String, Vec<&Claim<'_>>> = HashMap::new();
     for claim in claims {
-        let text = if claim.entry == "on" { claim.text.split_once(' ').map_or("", |(_, line)| line) } else { claim.text };
+        let text = if claim.entry == "on" {
+            claim.text.split_once(' ').map_or("", |(_, line)| line)
+        } else {
+            claim.text
+        };
         let text = without_kinds(text);
         by_text.entry(text).or_default().push(claim);
     }
@@ -224,8 +234,11 @@ fn page(page: &str, claims: &[Claim<'_>]) -> Result<usize, String> {
         let missing = |what: &str| format!("{what} stands on the page and in no claim of the record: {line}");
         if let Some(text) = cell("text") {
             let found = by_text.get(&plain(text)).and_then(|found| found.first()).ok_or(missing(text))?;
-            let recorded =
-                [("port", found.side("Rust")), ("sheet", found.side("sheet")), (ASCIIDOCTOR, Some(found.asciidoctor()))];
+            let recorded = [
+                ("port", found.side("Rust")),
+                ("sheet", found.side("sheet")),
+                (ASCIIDOCTOR, Some(found.asciidoctor())),
+            ];
             for (column, words) in recorded {
                 if cell(column) != words {
                     return Err(format!("the record has {words:?} in the column {column}: {line}"));
@@ -240,7 +253,8 @@ fn page(page: &str, claims: &[Claim<'_>]) -> Result<usize, String> {
             for span in spans(lines) {
                 let written = plain(span);
                 let bare = written.strip_prefix('[').unwrap_or(&written);
-                let claims = [written.as_str(), bare].into_iter().filter_map(|text| by_text.get(text)).flatten();
+                let claims =
+                    [written.as_str(), bare].into_iter().filter_map(|text| by_text.get(text)).flatten();
                 let before = found.len();
                 found.extend(claims.copied());
                 if found.len() == before {
@@ -249,7 +263,8 @@ fn page(page: &str, claims: &[Claim<'_>]) -> Result<usize, String> {
             }
             if let Some(block) = cell("block") {
                 let name = block.replace(", ", "-").replace(' ', "-");
-                let on = |claim: &&&Claim<'_>| claim.entry == "on" && claim.text.starts_with(&format!("{name} "));
+                let on =
+                    |claim: &&&Claim<'_>| claim.entry == "on" && claim.text.starts_with(&format!("{name} "));
                 let recorded = found.iter().find(on).ok_or(missing(lines))?.asciidoctor();
                 if cell(ASCIIDOCTOR) != Some(recorded) {
                     return Err(format!("the record has {recorded}: {line}"));

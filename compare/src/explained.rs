@@ -82,7 +82,8 @@ fn customized(on: u8, given: Set, text: &str) -> Set {
         _ => first.starts_with(['+', '-']) || first.ends_with('+'),
     };
     let begin = if modifies { given } else { NO_SUBS };
-    let mut set = Placed { kinds: begin.places.into_iter().filter(|k| *k != 0).collect(), flags: begin.flags };
+    let mut set =
+        Placed { kinds: begin.places.into_iter().filter(|k| *k != 0).collect(), flags: begin.flags };
     for part in parts.into_iter().filter(|part| part.len() >= 4) {
         if let Some(name) = part.strip_prefix('+') {
             kinds_of(on, name).iter().for_each(|kind| set.insert(*kind, 6 + usize::from(on & A1)));
@@ -116,7 +117,8 @@ pub fn start(letter: &str) -> Option<Set> {
 /// A set as the page writes it: its kinds in order, `(!k)` for a flag without a place, `-` for
 /// the empty set.
 pub fn written(set: Set) -> String {
-    let mut words: String = set.places.iter().filter(|kind| **kind != 0).map(|kind| kind.to_string()).collect();
+    let mut words: String =
+        set.places.iter().filter(|kind| **kind != 0).map(|kind| kind.to_string()).collect();
     for kind in 1..=7 {
         if set.flags & flag(kind) != 0 && !set.places.contains(&kind) {
             let _ = write!(words, "(!{kind})");
@@ -130,10 +132,10 @@ pub fn written(set: Set) -> String {
 pub fn texts() -> Vec<String> {
     let known = ["none", "normal", "verbatim", "specialcharacters"];
     let names: Vec<&str> = SUBS_NAMES.iter().chain(&known).copied().collect();
-    let others = ["", "q", "abc", "bogus", "Quotes", "post-replacements", "x-y", "a+b", "quo tes", "quotes\t"];
-    let modified = |name: &str| {
-        [name.to_string(), format!("+{name}"), format!("{name}+"), format!("-{name}")]
-    };
+    let others =
+        ["", "q", "abc", "bogus", "Quotes", "post-replacements", "x-y", "a+b", "quo tes", "quotes\t"];
+    let modified =
+        |name: &str| [name.to_string(), format!("+{name}"), format!("{name}+"), format!("-{name}")];
     let mut texts = Vec::new();
     for name in names.iter().chain(&others) {
         let more = [
@@ -153,7 +155,8 @@ pub fn texts() -> Vec<String> {
             texts.push(part);
         }
     }
-    let parts: Vec<String> = names.iter().chain(&["bogus", "q", ""]).flat_map(|name| modified(name)).collect();
+    let parts: Vec<String> =
+        names.iter().chain(&["bogus", "q", ""]).flat_map(|name| modified(name)).collect();
     for first in &parts {
         for second in &parts {
             texts.extend([",", ", ", " ,"].map(|comma| format!("{first}{comma}{second}")));

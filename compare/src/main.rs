@@ -113,7 +113,8 @@ fn report(tally: &Tally, seconds: f64) {
             println!("{what}: {}", numbered(counts));
         }
     }
-    let did: Vec<String> = MOVED.iter().zip(tally.moves).map(|(did, n)| format!("{did} {}", grouped(n))).collect();
+    let did: Vec<String> =
+        MOVED.iter().zip(tally.moves).map(|(did, n)| format!("{did} {}", grouped(n))).collect();
     if tally.moves.iter().any(|n| *n > 0) {
         println!("moves by what they did: {}", did.join("; "));
     }
@@ -155,7 +156,11 @@ fn telling(library: &Library, tally: &Tally) -> bool {
     }
     let moved = MODES.iter().all(|mode| library.has_moves(*mode));
     missing.extend(
-        MOVED.iter().zip(tally.moves).filter(|(_, count)| moved && *count < 1000).map(|(did, _)| format!("a move: {did}")),
+        MOVED
+            .iter()
+            .zip(tally.moves)
+            .filter(|(_, count)| moved && *count < 1000)
+            .map(|(did, _)| format!("a move: {did}")),
     );
     if !missing.is_empty() {
         println!("too few answers of these kinds were met: {}", missing.join(", "));

@@ -7,11 +7,11 @@ use crate::deq::Deq;
 use crate::library::Library;
 use crate::lines::{LineBuf, TELLING};
 use crate::model::{self, line_refusal, room_refusal};
+use crate::parser::SourceLocation;
 use crate::record;
 use crate::rust_side::{
     self, ENTRIES, Entry, KINDS, MODES, MOVES, Mode, Move, NO_SUBS, NORMAL, Outcome, STARTS, Set,
 };
-use crate::parser::SourceLocation;
 use crate::stand_in::{Bump, BumpString, Row};
 use crate::token::{Token, TokenIs, TokenKind};
 
@@ -247,9 +247,11 @@ fn moves(t: &mut Tests) {
             }
         }
         for step in MOVES {
-            let kept = model::held_sets().into_iter().filter(|set| model::set_refusal(mode, *set) == 0).all(
-                |set| (1..=7).all(|kind| model::set_refusal(mode, expected_move(mode, set, step, kind).set) == 0),
-            );
+            let kept =
+                model::held_sets().into_iter().filter(|set| model::set_refusal(mode, *set) == 0).all(|set| {
+                    (1..=7)
+                        .all(|kind| model::set_refusal(mode, expected_move(mode, set, step, kind).set) == 0)
+                });
             t.holds("a move keeps a set one that its mode takes", kept);
         }
     }

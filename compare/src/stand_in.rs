@@ -9,7 +9,9 @@ use std::marker::PhantomData;
 use std::ops::{Deref, DerefMut};
 
 use crate::deq::Deq;
-use crate::parser::{ContiguousLines, Inline, InlineCtx, MultiSourceLocation, Parser, Result, SourceLocation};
+use crate::parser::{
+    ContiguousLines, Inline, InlineCtx, MultiSourceLocation, Parser, Result, SourceLocation,
+};
 use crate::substitutions::Substitutions;
 use crate::token::Token;
 use crate::unreached::missing;

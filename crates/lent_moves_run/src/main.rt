@@ -18,10 +18,10 @@ ghost use mathlib.Core.Path.{_≡_};
 ghost use Prim.Native.Nat.{_≤_};
 ghost use Rattle.substitutions.specs.Moves.{insertAnswer, removeAnswer, prependAnswer};
 
-// How many sets are held, how many are not, and how many answers differ.
+// How many sets are held, how many are refused because they are not, and how many answers differ.
 struct Count {
     held: u64,
-    not_held: u64,
+    refused: u64,
     differ: u64,
 }
 
@@ -125,10 +125,10 @@ fn over_kinds(set: Substitutions) -> u64
 
 // Every byte of flags, with these places. A set that is not held is refused whatever the kind, so one kind is enough.
 fn over_flags(places: [u8; 7]) -> Count
-    ensures { λ r. ⌜ (r .held ≤ 256) × ((r .not_held ≤ 256) × (r .differ ≤ 10752)) ⌝ }
+    ensures { λ r. ⌜ (r .held ≤ 256) × ((r .refused ≤ 256) × (r .differ ≤ 10752)) ⌝ }
 {
     let mut held: u64 = 0;
-    let mut not_held: u64 = 0;
+    let mut refused: u64 = 0;
     let mut differ: u64 = 0;
     let mut n: u64 = 0;
     while n < 256 {
@@ -140,12 +140,12 @@ fn over_flags(places: [u8; 7]) -> Count
             differ = differ + over_kinds(set);
             continue;
         }
-        not_held = not_held + 1;
+        refused = refused + 1;
         differ = differ + over_kind(set, kind_of(n % 7));
     }
     Count {
         held,
-        not_held,
+        refused,
         differ,
     }
 }
@@ -193,10 +193,10 @@ fn places_of(number: u64) -> [u8; 7] {
 // All seven places from 0 to 8: with every byte of flags where the flags of the places give a held set, else with those flags alone, since
 // with such places no flags do.
 fn over_places() -> Count
-    ensures { λ r. ⌜ (r .held ≤ 1224440064) × (r .not_held ≤ 1224440064) ⌝ }
+    ensures { λ r. ⌜ (r .held ≤ 1224440064) × (r .refused ≤ 1224440064) ⌝ }
 {
     let mut held: u64 = 0;
-    let mut not_held: u64 = 0;
+    let mut refused: u64 = 0;
     let mut differ: u64 = 0;
     let mut number: u64 = 0;
     while number < 4782969 {
@@ -207,16 +207,16 @@ fn over_places() -> Count
         if is_held(set) {
             let count = over_flags(places);
             held = held + count.held;
-            not_held = not_held + count.not_held;
+            refused = refused + count.refused;
             differ = differ + count.differ;
             continue;
         }
-        not_held = not_held + 1;
+        refused = refused + 1;
         differ = differ + over_kind(set, kind_of(number % 7));
     }
     Count {
         held,
-        not_held,
+        refused,
         differ,
     }
 }
@@ -227,9 +227,9 @@ fn main() {
     io::write_all(1, b" held sets, ");
     io::print_decimal(1, count.held * 42);
     io::write_all(1, b" moves; ");
-    io::print_decimal(1, count.not_held);
+    io::print_decimal(1, count.refused);
     io::write_all(1, b" sets that are not held, ");
-    io::print_decimal(1, count.not_held * 6);
+    io::print_decimal(1, count.refused * 6);
     io::write_all(1, b" moves; by value and on loan, ");
     io::print_decimal(1, count.differ);
     io::write_all(1, b" differ\n");

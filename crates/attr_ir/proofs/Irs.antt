@@ -7,14 +7,14 @@ use mathlib.Core.List.{List}
 use Rattle.token.specs.declared.Run.{Run}
 use Rattle.token.specs.Line.{lineOf}
 use Rattle.token.specs.Run.{kept, quoted, unquote, runOf}
-use Rattle.token.specs.Parts.{all, Part}
+use Rattle.token.specs.Places.{all, Part}
 use Rattle.attr_ir.specs.declared.Reading.{Reading}
 use Rattle.attr_ir.specs.declared.Reading.the-variants.{Shorthand, Positional, Named}
 use Rattle.attr_ir.specs.declared.AttrIr.{AttrIr}
 use Rattle.attr_ir.specs.declared.AttrIr.the-variants as ir
 use Rattle.attr_ir.specs.Look.{look}
 use Rattle.attr_ir.specs.Ir.{shorthand, keyValueIr, irAs, attrIr, runsOf, tokensOf}
-use Rattle.attr_ir.specs.Parts.{Bounded}
+use Rattle.attr_ir.specs.Places.{Bounded}
 use Rattle.attr_ir.proofs.Values.{part-in}
 
 module _ (kinds text pairs : List ℕ) (from to : ℕ) (block : Bool) (reading : Reading) (e : reading ≡ look block true false (kept (lineOf kinds text pairs) from to)) where

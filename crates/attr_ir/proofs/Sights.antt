@@ -13,12 +13,12 @@ use Rattle.attr_ir.specs.declared.Sight.{Sight}
 use Rattle.attr_ir.specs.declared.Sight.the-variants.{Is, On}
 use Rattle.token.specs.Kind.{attrRef, dots, hash, percent, equalSigns, doubleQuote, singleQuote, whitespace}
 use Rattle.token.specs.Line.{Token, lineOf, tokenAt}
-use Rattle.token.specs.LineLaws.{Lent}
+use Rattle.token.specs.Lent.{Lent}
 use Rattle.token.specs.Run.{kept, ofOne, isEquals}
 use Rattle.token.specs.Names.{sameBytes}
 use Rattle.token.specs.NamesLaws.{one-is, lexeme-one, lexeme-length, one-byte, not-one}
-use Rattle.token.specs.Kept.{kind-is, is-kind, not-kind, kept-none, kept-first}
-use Rattle.token.specs.Parts.{all, StartsAt}
+use Rattle.token.specs.KeptLaws.{kind-is, is-kind, not-kind, kept-none, kept-first}
+use Rattle.token.specs.Places.{all, StartsAt}
 use Rattle.attr_ir.specs.Look.{isSymbol, any, nextEquals, symbolSight, sight, decided, look}
 
 -- what stands after a place, where the next kept token is at `next`

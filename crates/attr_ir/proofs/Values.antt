@@ -11,14 +11,14 @@ use Rattle.token.specs.Kind.{whitespace}
 use Rattle.token.specs.Line.{Line, Token, lineOf, tokenAt}
 use Rattle.token.specs.Run.{kept, isWhitespace, isEquals, without, unquote, runOf, inRun}
 use Rattle.token.specs.Names.{bytes, sameBytes}
-use Rattle.token.specs.Kept.{FoundIn, is-kind, not-kind, kept-none, kept-first}
-use Rattle.token.specs.Parts.{all, StartsAt, Part, FoundAt}
+use Rattle.token.specs.Places.{FoundIn, all, StartsAt, Part, FoundAt}
+use Rattle.token.specs.KeptLaws.{is-kind, not-kind, kept-none, kept-first}
 use Rattle.attr_ir.specs.declared.Name.{Name}
 use Rattle.attr_ir.specs.declared.Name.the-variants.{Options, Role, Id, Plain, Other}
 use Rattle.attr_ir.specs.declared.AttrIr.{AttrIr}
 use Rattle.attr_ir.specs.declared.AttrIr.the-variants as ir
 use Rattle.attr_ir.specs.Ir.{Ir, options, roles, ident, plain, named, nameTokens, lessFirst, value, valueTokens, options-name, opts-name, role-name, id-name, subs-name, cols-name, nameOf, namedIr, keyValueIr, runsOf, tokensOf}
-use Rattle.attr_ir.specs.Parts.{InLine, Bounded}
+use Rattle.attr_ir.specs.Places.{InLine, Bounded}
 
 -- ---- what a name asks for, by the six tests in order
 

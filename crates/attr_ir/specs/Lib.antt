@@ -1,3 +1,3 @@
 pub mod Look
 pub mod Ir
-pub mod Parts
+pub mod Places

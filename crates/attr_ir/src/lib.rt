@@ -10,10 +10,10 @@ ghost use mathlib.Core.List.{List};
 ghost use Prim.Native.Nat.{ℕ, _≤_};
 ghost use lib.ListN.{length};
 ghost use Rattle.token.specs.Line.{lineOf};
-ghost use Rattle.token.specs.LineLaws.{Lent};
+ghost use Rattle.token.specs.Lent.{Lent};
 ghost use Rattle.token.specs.Run.{kept, quoted};
 ghost use Rattle.attr_ir.specs.Ir.{attrIr, runsOf, tokensOf};
-ghost use Rattle.attr_ir.specs.Parts.{Bounded};
+ghost use Rattle.attr_ir.specs.Places.{Bounded};
 
 mod look;
 mod naming;

@@ -19,11 +19,11 @@ ghost use Prim.Native.Nat.{ℕ, _+_, _≤_, _<_};
 ghost use lib.Dec.{eqb};
 ghost use lib.ListN.{length};
 ghost use Rattle.token.specs.Line.{lineOf, tokenAt};
-ghost use Rattle.token.specs.LineLaws.{Lent};
+ghost use Rattle.token.specs.Lent.{Lent};
 ghost use Rattle.token.specs.Kind.{dots, hash, percent};
 ghost use Rattle.token.specs.Run.{kept, isEquals, ofOne};
 ghost use Rattle.token.specs.Names.{sameBytes};
-ghost use Rattle.token.specs.Parts.{all, StartsAt};
+ghost use Rattle.token.specs.Places.{all, StartsAt};
 ghost use Rattle.attr_ir.specs.Look.{isSymbol, symbolSight, sight, look};
 
 pub fn both(a: bool, b: bool) -> bool

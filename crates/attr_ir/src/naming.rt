@@ -15,12 +15,12 @@ ghost use mathlib.Core.List.{List};
 ghost use Prim.Native.Nat.{ℕ, _+_, _≤_, _<_};
 ghost use lib.ListN.{length};
 ghost use Rattle.token.specs.Line.{lineOf};
-ghost use Rattle.token.specs.LineLaws.{Lent};
+ghost use Rattle.token.specs.Lent.{Lent};
 ghost use Rattle.token.specs.Run.{isWhitespace, without, kept, runOf};
 ghost use Rattle.token.specs.Names.{bytes};
-ghost use Rattle.token.specs.Parts.{Part};
+ghost use Rattle.token.specs.Places.{Part};
 ghost use Rattle.attr_ir.specs.Ir.{value, nameOf, keyValueIr, runsOf, tokensOf};
-ghost use Rattle.attr_ir.specs.Parts.{InLine, Bounded};
+ghost use Rattle.attr_ir.specs.Places.{InLine, Bounded};
 
 // What the name of the tokens kept from `from` up to `to` asks for.
 fn name_of<'a>(

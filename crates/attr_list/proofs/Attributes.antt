@@ -11,18 +11,17 @@ use lib.Seq.{getD-take, length-take-le}
 use Rattle.token.specs.Kind.{word}
 use Rattle.token.specs.Line.{Line, tokenAt, lexemeAt}
 use Rattle.token.specs.Run.{kept, run, emptyRun, runOf, lastOf, trim, trimStart, trimEnd, leave, quoted, unquote}
-use Rattle.token.specs.Kept.{kept-none, kept-one}
+use Rattle.token.specs.KeptLaws.{kept-none, kept-one}
 use Rattle.row.specs.declared.Row.{Row}
-use Rattle.row.specs.Row.{width, oneRun, emptyPositional, positional, withRows}
-use Rattle.row.specs.Laws.{Wrote}
-use Rattle.delimiters.specs.Delimit.{dividing, parted}
+use Rattle.row.specs.Row.{width, oneRun, emptyPositional, positional, withRows, Wrote}
+use Rattle.delimiters.specs.Delimit.{parted}
 use Rattle.attribute.specs.declared.Written.{Written}
 use Rattle.attr_ir.specs.Look.{look, sight}
 use Rattle.attr_ir.specs.Ir.{attrIr, irAs}
 use Rattle.attribute.specs.Attribute.{attribute, reading, irRead, oneRow}
 use Rattle.attribute.specs.Laws.{again}
-use Rattle.attribute.specs.Parts.{written}
-use Rattle.attr_list.specs.Reading.{rowsFrom, lastBegins}
+use Rattle.attribute.specs.Written.{written}
+use Rattle.attr_list.specs.Reading.{rowsFrom}
 use Rattle.attr_list.specs.Laws.{Listing, listing-comma, listing-end, listing-next, listing-last}
 
 -- ---- an attribute of no tokens, and one of one Word: the row that is written for it
@@ -57,27 +56,6 @@ word-row block has l from to t row is =
     ∙ word-read block has from (lexemeAt l from)
     ∙ ap (λ (n : ℕ). oneRow has (positional (run from n))) one
     )
-
--- ---- where the last attribute begins
-
-pub begins-last : (from : ℕ) (cs : List ℕ) → 0 < length cs → lastBegins from cs ≡ getD cs (length cs - 1) 0 + 1
-unfolding lastBegins
-begins-last from [] h = absurd (omega arith)
-begins-last from (c ∷ []) h = refl
-begins-last from (c ∷ d ∷ cs) h =
-    let e : suc (suc (length cs)) - 1 ≡ suc (suc (length cs) - 1) = omega arith in
-    begins-last (c + 1) (d ∷ cs) (omega arith) ∙ sym (ap (λ (k : ℕ). getD (c ∷ d ∷ cs) k 0 + 1) e)
-
-module _ (kinds commas : List ℕ) (n : ℕ) (enough : n ≤ length commas) (same : take n commas ≡ dividing kinds) where
-  pub begins-none : n ≡ 0 → 0 ≡ lastBegins 0 (dividing kinds)
-  unfolding lastBegins
-  begins-none e = sym (ap (lastBegins 0) (sym same ∙ ap (λ (k : ℕ). take k commas) e))
-
-  pub begins-some : (c : ℕ) → 0 < n → c ≡ getD commas (n - 1) 0 → c + 1 ≡ lastBegins 0 (dividing kinds)
-  begins-some c some e =
-      let long : length (take n commas) ≡ n = length-take-le n commas enough in
-      let last : getD (take n commas) (length (take n commas) - 1) 0 ≡ c = ap (λ (k : ℕ). getD (take n commas) (k - 1) 0) long ∙ getD-take n commas (n - 1) 0 (omega arith) ∙ sym e in
-      sym (ap (lastBegins 0) (sym same) ∙ begins-last 0 (take n commas) (omega (arith, long)) ∙ ap (λ (k : ℕ). k + 1) last)
 
 -- ---- the loop
 

@@ -6,26 +6,24 @@ use mathlib.Core.Path.{_≡_, refl, sym, ap, subst, _∙_}
 use mathlib.Core.List.{List, [], _∷_, _++_}
 use lib.ListN.{length, getD, take, drop, length-append, drop-of-length-le}
 use lib.Seq.{sets-eq, take-at, drop-at}
-use Rattle.token.specs.Kind.{closeBracket}
+use Rattle.token.specs.Kind.{closeBracket, kindAt}
 use Rattle.token.specs.Line.{Line, Token, tokens}
 use Rattle.token.specs.Run.{isAttrRef, without, kept}
 use Rattle.row.specs.declared.Row.{Row}
-use Rattle.row.specs.Row.{width, allNumbers, withRows}
-use Rattle.row.specs.Laws.{numbers-length, Writes, writes-start, writes-part, writes-wrote, Wrote}
-use Rattle.delimiters.specs.Count.{counted, kindAt}
+use Rattle.row.specs.Row.{width, allNumbers, withRows, Wrote}
+use Rattle.row.specs.Laws.{numbers-length, Writes, writes-start, writes-part, writes-wrote}
+use Rattle.delimiters.specs.Count.{counted}
 use Rattle.delimiters.specs.Delimit.{Stretch, dividing, parted}
 use Rattle.delimiters.specs.Divide.{Ascending, Closes}
 use Rattle.delimiters.specs.CountLaws.{counts, count-some}
 use Rattle.delimiters.specs.CommaLaws.{ascending-end, ascending-next, parted-next}
 use Rattle.delimiters.specs.DivideLaws.{dividing-ascend, dividing-ascend-to, attributes-none, attributes-some}
-use Rattle.closing.specs.declared.Closing.{Closing}
-use Rattle.closing.specs.declared.Closing.the-variants.{At, Nowhere}
-use Rattle.closing.specs.Closing.{lastBracket, nextBracket}
-use Rattle.closing.specs.Laws.{Found, FoundLast, next-found, last-found}
+use Rattle.closing.specs.ClosingLaws.{IsBracket}
 use Rattle.attribute.specs.Attribute as one
 use Rattle.attribute.specs.Attribute.{attribute}
-use Rattle.attribute.specs.Laws.{orOne, rows-few}
-use Rattle.attr_list.specs.Reading.{rowsFrom, listRows, lastBegins, closing}
+use Rattle.attribute.specs.Laws.{rows-few}
+use Rattle.attribute.specs.Written.{orOne}
+use Rattle.attr_list.specs.Reading.{rowsFrom, listRows}
 
 -- ---- the rows of a list are no more than its tokens through the closing bracket, so a buffer that 7 lets pass has room for them
 
@@ -76,7 +74,7 @@ list-few l block end h = go (counted (l .kinds)) refl
 -- ---- the rows in the buffer
 
 module _ (given : List ℕ) (rs : List Row) (room : width * length rs ≤ length given) where
-  in-front : withRows given 0 rs ≡ allNumbers rs ++ drop (width * length rs) given
+  pub in-front : withRows given 0 rs ≡ allNumbers rs ++ drop (width * length rs) given
   unfolding withRows
   in-front =
       let n : 0 + length (allNumbers rs) ≡ width * length rs = omega (arith, numbers-length rs) in
@@ -88,40 +86,8 @@ module _ (given : List ℕ) (rs : List Row) (room : width * length rs ≤ length
   pub others-after : drop (width * length rs) (withRows given 0 rs) ≡ drop (width * length rs) given
   others-after = ap (drop (width * length rs)) in-front ∙ drop-at (allNumbers rs) (drop (width * length rs) given) (width * length rs) (numbers-length rs)
 
--- ---- the closing bracket
+-- ---- a closing bracket that stands later than the first token, which is no CloseBracket: something is counted
 
-pub begins-within : (from : ℕ) (cs : List ℕ) (n : ℕ) → Ascending from cs n → lastBegins from cs ≤ n
-unfolding lastBegins
-begins-within from [] n h = h
-begins-within from (c ∷ cs) n h = begins-within (c + 1) cs n (h .1)
-
--- where the last attribute begins there is a token
-pub begins-among : (kinds : List ℕ) → 0 < length kinds → lastBegins 0 (dividing kinds) < length kinds
-begins-among kinds some = omega (arith, begins-within 0 (dividing kinds) (counted kinds) (dividing-ascend kinds), counts kinds .within)
-
--- a bracket that closes is a CloseBracket of the line
-pub record IsBracket (kinds : List ℕ) (end : ℕ) : Type 0 where
-  pub among : end < length kinds
-  pub bracket : kindAt kinds end ≡ closeBracket
-
-abbrev pub Bracket : (kinds : List ℕ) → Closing → Type 0
-Bracket kinds (At end) = IsBracket kinds (end .0)
-Bracket kinds Nowhere = Unit {0}
-
-module _ (kinds : List ℕ) (some : 0 < length kinds) where
-  last-is : (c : Closing) → FoundLast kinds c → Bracket kinds c
-  last-is (At end) w = record { among = omega (arith, w .0); bracket = w .1 }
-  last-is Nowhere w = tt
-
-  next-is : (c : Closing) → Found kinds (lastBegins 0 (dividing kinds)) c → Bracket kinds c
-  next-is (At end) w = record { among = w .high; bracket = w .bracket }
-  next-is Nowhere w = tt
-
-  pub closing-is : (fullLine : Bool) → Bracket kinds (closing fullLine kinds)
-  closing-is true = last-is (lastBracket kinds) (last-found kinds)
-  closing-is false = next-is (nextBracket kinds (lastBegins 0 (dividing kinds))) (next-found kinds (lastBegins 0 (dividing kinds)) (begins-among kinds some))
-
--- where it stands later than the first token, which is no CloseBracket, something is counted
 module _ (kinds : List ℕ) (not-first : kindAt kinds 0 ≡ closeBracket → ⊥) (end : ℕ) (w : IsBracket kinds end) where
   pub bracket-later : 0 < end
   bracket-later = go end refl

@@ -1,6 +1,10 @@
 pub mod Entry
 pub mod Reading
 pub mod ReadAsList
-pub mod Bench
+pub mod Outcome
+pub mod Block
 pub mod Laws
 pub mod ReadAsListLaws
+pub mod OneAnswerLaws
+pub mod RefusalLaws
+pub mod BlockLaws

@@ -1,16 +1,20 @@
-// The four readings of an attribute list: a line of tokens to rows (document 01, "Lists and links"). Answers and buffers are defined in
-// specs/Reading.antt, what holds of every line that is read as a list in specs/ReadAsList.antt.
+// The entries: the four readings of an attribute list, from a line of tokens to rows, and whether a line is a block attribute list (document 01, "Lists
+// and links"). What an entry answers and leaves is `Outcome` (specs/Outcome.antt); answers and buffers are defined in specs/Reading.antt, what holds of
+// every line that is read as a list in specs/ReadAsList.antt.
+use block::bracketed;
+use read::lent_refusal;
 use read::read_link;
 use read::read_list;
-use read::turned_away;
 use token::line::MOST_TOKENS;
+use token::line::line_refusal;
 ghost use mathlib.Core.Path.{_≡_};
-ghost use lib.ListN.{length};
-ghost use Rattle.token.specs.Line.{lineOf, mostTokens};
+ghost use Rattle.token.specs.Lent.{line};
+ghost use Rattle.token.specs.Line.{mostTokens};
 ghost use Rattle.attr_list.specs.Entry.{Block, BlockMacro, Inline, Link};
-ghost use Rattle.attr_list.specs.Reading.{answer, buffer, reading};
-ghost use Rattle.attr_list.specs.ReadAsList.{WhenReadAsList};
+ghost use Rattle.attr_list.specs.Outcome.{Outcome};
+ghost use Rattle.attr_list.specs.Block.{blockLine};
 
+mod block;
 mod list;
 mod read;
 
@@ -20,6 +24,23 @@ pub enum Answer {
     Read { rows: usize, consumed: usize },
 }
 
+// Whether a line is a block attribute list, or the number with which it is refused.
+pub enum BlockLine {
+    Refused(usize),
+    Is(bool),
+}
+
+// Whether a line is a block attribute list; here its text begins with the opening bracket.
+pub fn is_block_attr_list<'a>(kinds: &'a [u8], text: &'a [u8], pairs: &'a [u32]) -> BlockLine
+    ensures { λ r. ⌜ r ≡ blockLine (line (kinds .entry) (text .entry) (pairs .entry)) ⌝ }
+{
+    let refused = line_refusal(kinds, text, pairs, MOST_TOKENS);
+    if refused != 0 {
+        return BlockLine::Refused(refused);
+    }
+    BlockLine::Is(bracketed(kinds))
+}
+
 // The attribute list of a block, which is the rest of its line.
 pub fn parse_block_attr_list<'a, 'b>(
     kinds: &'a [u8],
@@ -27,11 +48,9 @@ pub fn parse_block_attr_list<'a, 'b>(
     pairs: &'a [u32],
     rows: &'b mut [u32],
 ) -> Answer
-    ensures answer { λ r. ⌜ r ≡ answer (reading mostTokens Block (lineOf (now (kinds .entry)) (now (text .entry)) (now (pairs .entry))) (length (now (rows .entry)))) ⌝ }
-    ensures buffer { λ _. ⌜ now (rows .exit) ≡ buffer (now (rows .entry)) (reading mostTokens Block (lineOf (now (kinds .entry)) (now (text .entry)) (now (pairs .entry))) (length (now (rows .entry)))) ⌝ }
-    ensures list { λ r. ⌜ WhenReadAsList Block (lineOf (now (kinds .entry)) (now (text .entry)) (now (pairs .entry))) (now (rows .entry)) r (now (rows .exit)) ⌝ }
+    ensures { λ r. ⌜ Outcome mostTokens Block (line (kinds .entry) (text .entry) (pairs .entry)) (now (rows .entry)) r (now (rows .exit)) ⌝ }
 {
-    let refused = turned_away(kinds, text, pairs, rows.len(), MOST_TOKENS);
+    let refused = lent_refusal(kinds, text, pairs, rows.len(), MOST_TOKENS);
     if refused != 0 {
         return Answer::Refused(refused);
     }
@@ -45,11 +64,9 @@ pub fn parse_block_macro_attr_list<'a, 'b>(
     pairs: &'a [u32],
     rows: &'b mut [u32],
 ) -> Answer
-    ensures answer { λ r. ⌜ r ≡ answer (reading mostTokens BlockMacro (lineOf (now (kinds .entry)) (now (text .entry)) (now (pairs .entry))) (length (now (rows .entry)))) ⌝ }
-    ensures buffer { λ _. ⌜ now (rows .exit) ≡ buffer (now (rows .entry)) (reading mostTokens BlockMacro (lineOf (now (kinds .entry)) (now (text .entry)) (now (pairs .entry))) (length (now (rows .entry)))) ⌝ }
-    ensures list { λ r. ⌜ WhenReadAsList BlockMacro (lineOf (now (kinds .entry)) (now (text .entry)) (now (pairs .entry))) (now (rows .entry)) r (now (rows .exit)) ⌝ }
+    ensures { λ r. ⌜ Outcome mostTokens BlockMacro (line (kinds .entry) (text .entry) (pairs .entry)) (now (rows .entry)) r (now (rows .exit)) ⌝ }
 {
-    let refused = turned_away(kinds, text, pairs, rows.len(), MOST_TOKENS);
+    let refused = lent_refusal(kinds, text, pairs, rows.len(), MOST_TOKENS);
     if refused != 0 {
         return Answer::Refused(refused);
     }
@@ -63,11 +80,9 @@ pub fn parse_inline_macro_attr_list<'a, 'b>(
     pairs: &'a [u32],
     rows: &'b mut [u32],
 ) -> Answer
-    ensures answer { λ r. ⌜ r ≡ answer (reading mostTokens Inline (lineOf (now (kinds .entry)) (now (text .entry)) (now (pairs .entry))) (length (now (rows .entry)))) ⌝ }
-    ensures buffer { λ _. ⌜ now (rows .exit) ≡ buffer (now (rows .entry)) (reading mostTokens Inline (lineOf (now (kinds .entry)) (now (text .entry)) (now (pairs .entry))) (length (now (rows .entry)))) ⌝ }
-    ensures list { λ r. ⌜ WhenReadAsList Inline (lineOf (now (kinds .entry)) (now (text .entry)) (now (pairs .entry))) (now (rows .entry)) r (now (rows .exit)) ⌝ }
+    ensures { λ r. ⌜ Outcome mostTokens Inline (line (kinds .entry) (text .entry) (pairs .entry)) (now (rows .entry)) r (now (rows .exit)) ⌝ }
 {
-    let refused = turned_away(kinds, text, pairs, rows.len(), MOST_TOKENS);
+    let refused = lent_refusal(kinds, text, pairs, rows.len(), MOST_TOKENS);
     if refused != 0 {
         return Answer::Refused(refused);
     }
@@ -81,11 +96,9 @@ pub fn parse_link_macro_attr_list<'a, 'b>(
     pairs: &'a [u32],
     rows: &'b mut [u32],
 ) -> Answer
-    ensures answer { λ r. ⌜ r ≡ answer (reading mostTokens Link (lineOf (now (kinds .entry)) (now (text .entry)) (now (pairs .entry))) (length (now (rows .entry)))) ⌝ }
-    ensures buffer { λ _. ⌜ now (rows .exit) ≡ buffer (now (rows .entry)) (reading mostTokens Link (lineOf (now (kinds .entry)) (now (text .entry)) (now (pairs .entry))) (length (now (rows .entry)))) ⌝ }
-    ensures list { λ r. ⌜ WhenReadAsList Link (lineOf (now (kinds .entry)) (now (text .entry)) (now (pairs .entry))) (now (rows .entry)) r (now (rows .exit)) ⌝ }
+    ensures { λ r. ⌜ Outcome mostTokens Link (line (kinds .entry) (text .entry) (pairs .entry)) (now (rows .entry)) r (now (rows .exit)) ⌝ }
 {
-    let refused = turned_away(kinds, text, pairs, rows.len(), MOST_TOKENS);
+    let refused = lent_refusal(kinds, text, pairs, rows.len(), MOST_TOKENS);
     if refused != 0 {
         return Answer::Refused(refused);
     }

@@ -1,10 +1,7 @@
-// The attributes of a list: where the last ends, and their rows.
+// The attributes of a list: their rows.
 use attribute::Written;
 use attribute::parse_attr;
 use attribute::single::put_one;
-use closing::Closing;
-use closing::last_bracket;
-use closing::next_bracket;
 use row::one_run;
 use row::tag::EMPTY_POSITIONAL;
 use row::tag::POSITIONAL;
@@ -12,41 +9,23 @@ use token::Run;
 use token::TokenPlace;
 use token::kind::WORD;
 ghost use mathlib.Core.Path.{_≡_};
-ghost use mathlib.Core.Bool.{false, _&&_};
+ghost use mathlib.Core.Bool.{_&&_};
 ghost use Prim.Native.Nat.{_+_, _*_, _-_, _≤_, _<_};
 ghost use lib.Dec.{eqb};
 ghost use lib.ListN.{length, take};
-ghost use Rattle.token.specs.Kind.{word};
-ghost use Rattle.token.specs.Line.{lineOf};
-ghost use Rattle.token.specs.LineLaws.{Lent};
+ghost use Rattle.token.specs.Kind.{word, kindAt};
+ghost use Rattle.token.specs.Lent.{line, Lent};
 ghost use Rattle.token.specs.Run.{kept};
-ghost use Rattle.row.specs.Row.{width, withRows};
+ghost use Rattle.row.specs.Row.{width, withRows, Wrote};
 ghost use Rattle.attribute.specs.Attribute.{attribute};
-ghost use Rattle.attribute.specs.Parts.{written};
-ghost use Rattle.delimiters.specs.Count.{kindAt};
-ghost use Rattle.delimiters.specs.Delimit.{dividing, parted};
+ghost use Rattle.attribute.specs.Written.{written};
 ghost use Rattle.delimiters.specs.Divide.{Ascending};
-ghost use Rattle.attr_list.specs.Reading.{closing, rowsFrom};
+ghost use Rattle.attr_list.specs.Reading.{partedRows};
 
 fn wide(x: u16) -> usize
     ensures { λ r. ⌜ r ≡ x ⌝ }
 {
     x as usize
-}
-
-// The closing bracket of a line; the first `n` of `commas` are its dividing commas. `full` says that the list is the rest of a full line, which its last token closes.
-pub fn closing_bracket<'a>(kinds: &'a [u8], commas: &'a [u16], n: usize, full: bool) -> Closing
-    requires { ⌜ (n ≤ length (now commas)) × (0 < length (now kinds)) × (take n (now commas) ≡ dividing (now kinds)) ⌝ }
-    ensures closing { λ r. ⌜ r ≡ closing full (now (kinds .entry)) ⌝ }
-{
-    if full {
-        return last_bracket(kinds);
-    }
-    if n == 0 {
-        return next_bracket(kinds, TokenPlace(0));
-    }
-    let last = wide(commas[n - 1]);
-    next_bracket(kinds, TokenPlace(last + 1))
 }
 
 // Whether the tokens from `from` up to `to` are one Word.
@@ -75,8 +54,8 @@ fn attr_rows<'a, 'b>(
 ) -> Written
     requires { ⌜ Lent (now kinds) (now text) (now pairs) ⌝ }
     requires { ⌜ (from .0 ≤ to .0) × (to .0 ≤ length (now kinds)) × (width * (at + (to .0 - from .0) + 1) ≤ length (now rows)) ⌝ }
-    ensures answer { λ r. ⌜ r ≡ written at (attribute block has (kept (lineOf (now (kinds .entry)) (now (text .entry)) (now (pairs .entry))) (from .0) (to .0))) ⌝ }
-    ensures buffer { λ _. ⌜ now (rows .exit) ≡ withRows (now (rows .entry)) at (attribute block has (kept (lineOf (now (kinds .entry)) (now (text .entry)) (now (pairs .entry))) (from .0) (to .0)) .rows) ⌝ }
+    ensures answer { λ r. ⌜ r ≡ written at (attribute block has (kept (line (kinds .entry) (text .entry) (pairs .entry)) (from .0) (to .0))) ⌝ }
+    ensures buffer { λ _. ⌜ now (rows .exit) ≡ withRows (now (rows .entry)) at (attribute block has (kept (line (kinds .entry) (text .entry) (pairs .entry)) (from .0) (to .0)) .rows) ⌝ }
     ensures few { λ r. ⌜ r .rows ≤ at + (to .0 - from .0) + 1 ⌝ }
 {
     if from.0 == to.0 {
@@ -111,8 +90,7 @@ pub fn list_rows<'a, 'b>(
     requires { ⌜ Lent (now kinds) (now text) (now pairs) ⌝ }
     requires { ⌜ (n ≤ length (now commas)) × (end .0 ≤ length (now kinds)) × (width * (end .0 + 1) ≤ length (now rows)) ⌝ }
     requires { ⌜ Ascending 0 (take n (now commas)) (end .0) ⌝ }
-    ensures count { λ r. ⌜ r ≡ length (rowsFrom (lineOf (now (kinds .entry)) (now (text .entry)) (now (pairs .entry))) block false (parted 0 (take n (now (commas .entry))) (end .0)) .rows) ⌝ }
-    ensures buffer { λ _. ⌜ now (rows .exit) ≡ withRows (now (rows .entry)) 0 (rowsFrom (lineOf (now (kinds .entry)) (now (text .entry)) (now (pairs .entry))) block false (parted 0 (take n (now (commas .entry))) (end .0)) .rows) ⌝ }
+    ensures { λ r. ⌜ Wrote (now (rows .entry)) 0 (partedRows (line (kinds .entry) (text .entry) (pairs .entry)) block (take n (now (commas .entry))) (end .0)) (now (rows .exit)) r ⌝ }
 {
     let mut from: usize = 0;
     let mut at: usize = 0;

@@ -1,11 +1,13 @@
 // What the entries share: the refusals in the table's order, then the rows. Nothing is written before every refusal has been ruled out.
 use super::Answer;
-use super::list::closing_bracket;
 use super::list::list_rows;
 use closing::Closing;
 use closing::LinkMacro;
+use closing::closing_bracket;
 use closing::link_macro;
 use delimiters::find_delimiters;
+use refusals::NO_CLOSING_BRACKET;
+use refusals::ROWS_TOO_SHORT;
 use row::has_room;
 use row::one_run;
 use row::put_row;
@@ -20,41 +22,38 @@ ghost use mathlib.Core.Bool.{false};
 ghost use mathlib.Core.List.{[]};
 ghost use Prim.Native.Nat.{_+_, _*_, _≤_, _<_};
 ghost use lib.ListN.{length};
-ghost use Rattle.token.specs.Kind.{closeBracket};
-ghost use Rattle.token.specs.Line.{lineOf};
-ghost use Rattle.token.specs.LineLaws.{Lent};
+ghost use Rattle.token.specs.Kind.{closeBracket, kindAt};
+ghost use Rattle.token.specs.Lent.{line, Lent};
 ghost use Rattle.row.specs.Row.{width};
-ghost use Rattle.delimiters.specs.Count.{kindAt};
-ghost use Rattle.closing.specs.Link.{linkMacro};
 ghost use Rattle.attr_list.specs.Entry.{Link};
-ghost use Rattle.attr_list.specs.Reading.{gives, answer, buffer, closing, listTo, textTo, readBy, unlessClosed, turnedAway};
+ghost use Rattle.attr_list.specs.Reading.{gives, answerOf, Gives, listOf, textTo, readBy, unlessClosed, lentRefusal};
 
 // Lines of so many tokens have their commas in a small array, which is cleared sooner than the large one.
 const SHORT: usize = 64;
 
 // The number with which 1 to 7 refuse a line of at most `most` tokens and a row buffer of `room` numbers, 0 where none does.
-pub fn turned_away<'a>(
+pub fn lent_refusal<'a>(
     kinds: &'a [u8],
     text: &'a [u8],
     pairs: &'a [u32],
     room: usize,
     most: usize,
 ) -> usize
-    ensures number { λ r. ⌜ r ≡ turnedAway most (lineOf (now (kinds .entry)) (now (text .entry)) (now (pairs .entry))) room ⌝ }
+    ensures { λ r. ⌜ r ≡ lentRefusal most (line (kinds .entry) (text .entry) (pairs .entry)) room ⌝ }
 {
     let refused = line_refusal(kinds, text, pairs, most);
     if refused != 0 {
         return refused;
     }
     if !has_room(room, kinds.len()) {
-        return 7;
+        return ROWS_TOO_SHORT;
     }
     0
 }
 
 // What is answered where the first token is CloseBracket: no rows, 1 consumed.
 fn no_rows() -> Answer
-    ensures { λ r. ⌜ r ≡ answer (gives [] 1) ⌝ }
+    ensures { λ r. ⌜ r ≡ answerOf (gives [] 1) ⌝ }
 {
     Answer::Read {
         rows: 0,
@@ -74,14 +73,13 @@ fn read_list_in<'a, 'b, 'c>(
 ) -> Answer
     requires { ⌜ Lent (now kinds) (now text) (now pairs) ⌝ }
     requires { ⌜ (width * length (now kinds) ≤ length (now rows)) × (length (now kinds) ≤ length (now commas)) × (kindAt (now kinds) 0 ≡ closeBracket → ⊥) ⌝ }
-    ensures answer { λ r. ⌜ r ≡ answer (listTo (lineOf (now (kinds .entry)) (now (text .entry)) (now (pairs .entry))) block (closing full (now (kinds .entry)))) ⌝ }
-    ensures buffer { λ _. ⌜ now (rows .exit) ≡ buffer (now (rows .entry)) (listTo (lineOf (now (kinds .entry)) (now (text .entry)) (now (pairs .entry))) block (closing full (now (kinds .entry)))) ⌝ }
+    ensures { λ r. ⌜ Gives (now (rows .entry)) (listOf (line (kinds .entry) (text .entry) (pairs .entry)) full block) r (now (rows .exit)) ⌝ }
 {
     let delimited = find_delimiters(kinds, commas);
     let n = delimited.commas;
     let closing = closing_bracket(kinds, commas, n, full);
     let Closing::At(end) = closing else {
-        return Answer::Refused(8);
+        return Answer::Refused(NO_CLOSING_BRACKET);
     };
     // `text` and `pairs` are lent again: an address and a length, eight bytes each as they were written. Handed on as they are, both would be copied
     // by one load of 16 bytes, which waits for the two writes to reach the cache.
@@ -103,8 +101,7 @@ pub fn read_list<'a, 'b>(
 ) -> Answer
     requires { ⌜ Lent (now kinds) (now text) (now pairs) ⌝ }
     requires { ⌜ width * length (now kinds) ≤ length (now rows) ⌝ }
-    ensures answer { λ r. ⌜ r ≡ answer (unlessClosed (now (kinds .entry)) (listTo (lineOf (now (kinds .entry)) (now (text .entry)) (now (pairs .entry))) block (closing full (now (kinds .entry))))) ⌝ }
-    ensures buffer { λ _. ⌜ now (rows .exit) ≡ buffer (now (rows .entry)) (unlessClosed (now (kinds .entry)) (listTo (lineOf (now (kinds .entry)) (now (text .entry)) (now (pairs .entry))) block (closing full (now (kinds .entry))))) ⌝ }
+    ensures { λ r. ⌜ Gives (now (rows .entry)) (unlessClosed (now (kinds .entry)) (listOf (line (kinds .entry) (text .entry) (pairs .entry)) full block)) r (now (rows .exit)) ⌝ }
 {
     if kinds[0] == CLOSE_BRACKET {
         return no_rows();
@@ -127,12 +124,11 @@ fn read_text<'a, 'b>(
 ) -> Answer
     requires { ⌜ Lent (now kinds) (now text) (now pairs) ⌝ }
     requires { ⌜ (width * length (now kinds) ≤ length (now rows)) × (end .0 < length (now kinds)) ⌝ }
-    ensures answer { λ r. ⌜ r ≡ answer (textTo (lineOf (now (kinds .entry)) (now (text .entry)) (now (pairs .entry))) (end .0)) ⌝ }
-    ensures buffer { λ _. ⌜ now (rows .exit) ≡ buffer (now (rows .entry)) (textTo (lineOf (now (kinds .entry)) (now (text .entry)) (now (pairs .entry))) (end .0)) ⌝ }
+    ensures { λ r. ⌜ Gives (now (rows .entry)) (textTo (line (kinds .entry) (text .entry) (pairs .entry)) (end .0)) r (now (rows .exit)) ⌝ }
 {
     let last = end.0;
     if kinds[last] != CLOSE_BRACKET {
-        return Answer::Refused(8);
+        return Answer::Refused(NO_CLOSING_BRACKET);
     }
     put_row(
         rows,
@@ -154,8 +150,7 @@ pub fn read_link<'a, 'b>(
 ) -> Answer
     requires { ⌜ Lent (now kinds) (now text) (now pairs) ⌝ }
     requires { ⌜ width * length (now kinds) ≤ length (now rows) ⌝ }
-    ensures answer { λ r. ⌜ r ≡ answer (unlessClosed (now (kinds .entry)) (readBy Link (lineOf (now (kinds .entry)) (now (text .entry)) (now (pairs .entry))))) ⌝ }
-    ensures buffer { λ _. ⌜ now (rows .exit) ≡ buffer (now (rows .entry)) (unlessClosed (now (kinds .entry)) (readBy Link (lineOf (now (kinds .entry)) (now (text .entry)) (now (pairs .entry))))) ⌝ }
+    ensures { λ r. ⌜ Gives (now (rows .entry)) (unlessClosed (now (kinds .entry)) (readBy Link (line (kinds .entry) (text .entry) (pairs .entry)))) r (now (rows .exit)) ⌝ }
 {
     if kinds[0] == CLOSE_BRACKET {
         return no_rows();

@@ -12,15 +12,15 @@ use Rattle.token.specs.declared.Run.{Run}
 use Rattle.token.specs.Kind.{attrRef, dots, hash, percent}
 use Rattle.token.specs.Line.{Token, lineOf, tokenAt}
 use Rattle.token.specs.Run.{kept, ofKind, ofOne, trim, runOf, onward}
-use Rattle.token.specs.Kept.{none-start, none-skip, none-more, found-here, found-none}
-use Rattle.token.specs.Parts.{FoundAt}
+use Rattle.token.specs.KeptLaws.{none-start, none-skip, none-more, found-here, found-none}
+use Rattle.token.specs.Places.{FoundAt}
 use Rattle.token.specs.NamesLaws.{kind-of}
 use Rattle.row.specs.declared.Row.{Row}
-use Rattle.row.specs.Row.{width, numbers, oneRun, diagnostic, ident}
-use Rattle.row.specs.Laws.{Writes, writes-start, writes-part, writes-wrote, Wrote, wrote-none, wrote-one}
+use Rattle.row.specs.Row.{width, numbers, oneRun, diagnostic, ident, Wrote}
+use Rattle.row.specs.Laws.{Writes, writes-start, writes-part, writes-wrote, wrote-none, wrote-one}
 use Rattle.attribute.specs.declared.Written.{Written}
 use Rattle.attribute.specs.Attribute.{Read, oneRow, isStop, unlessEmpty, groups, groupRows, idRead}
-use Rattle.attribute.specs.Parts.{WroteId, StopsAt}
+use Rattle.attribute.specs.Written.{WroteId, StopsAt}
 use Rattle.attribute.proofs.Lists.{groups-next, groups-last, groupRows-first, unless-none, run-count, id-none, id-second, id-first}
 
 -- ---- one row

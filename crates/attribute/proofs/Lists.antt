@@ -9,7 +9,8 @@ use Rattle.token.specs.declared.Run.{Run}
 use Rattle.token.specs.Kind.{attrRef}
 use Rattle.token.specs.Line.{Line, Token, tokenAt}
 use Rattle.token.specs.Run.{kept, isHash, isPercent, upTo, onward, trim, runOf}
-use Rattle.token.specs.Kept.{FoundIn, onward-later, place-is, kept-none, kept-first, kept-split}
+use Rattle.token.specs.Places.{FoundIn}
+use Rattle.token.specs.KeptLaws.{onward-later, place-is, kept-none, kept-first, kept-split}
 use Rattle.row.specs.declared.Row.{Row}
 use Rattle.row.specs.Row.{oneRun, ident, diagnostic}
 use Rattle.attribute.specs.Attribute.{oneRow, rowFirst, isStop, pieces, symbolRow, lastEmpty, shorthandRead, laterGroups, groups, unlessEmpty, groupRows, idRead}

@@ -11,14 +11,14 @@ use Rattle.token.specs.declared.Run.{Run}
 use Rattle.token.specs.Kind.{hash, percent}
 use Rattle.token.specs.Line.{lineOf, tokenAt}
 use Rattle.token.specs.Run.{kept, isHash, isPercent, runOf}
-use Rattle.token.specs.Kept.{kind-is, kept-none}
-use Rattle.token.specs.Parts.{all, StartsAt}
+use Rattle.token.specs.KeptLaws.{kind-is, kept-none}
+use Rattle.token.specs.Places.{all, StartsAt}
 use Rattle.row.specs.declared.Row.{Row}
 use Rattle.row.specs.Row.{width, numbers, oneRun, diagnostic}
 use Rattle.row.specs.Laws.{Writes, writes-start, writes-put, writes-part, writes-wrote}
 use Rattle.attribute.specs.declared.Written.{Written}
 use Rattle.attribute.specs.Attribute.{Read, oneRow, rowFirst, pieces, shorthandRead}
-use Rattle.attribute.specs.Parts.{WroteId, StopsAt, StopFirst}
+use Rattle.attribute.specs.Written.{WroteId, StopsAt, StopFirst}
 use Rattle.attribute.proofs.Lists.{short-last, short-second, short-more, short-none}
 
 pub record Shorting (kinds text pairs : List ℕ) (from to : ℕ) (has : Bool) (base : List ℕ) (at i : ℕ) (cur : List ℕ) (n : ℕ) (id : Bool) : Type 0 where

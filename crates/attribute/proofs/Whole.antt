@@ -10,8 +10,8 @@ use Rattle.token.specs.declared.Run.{Run}
 use Rattle.token.specs.Kind.{attrRef}
 use Rattle.token.specs.Line.{Token, lineOf, tokenAt}
 use Rattle.token.specs.Run.{kept, isComma, isDots, isHash, isPercent, isWhitespace, isEquals, ofOne, upTo, onward, trim, emptyRun, runOf, inRun}
-use Rattle.token.specs.Kept.{Ends, place-is, kept-none, kept-first}
-use Rattle.token.specs.Parts.{Part, FoundAt}
+use Rattle.token.specs.Places.{Ends, Part, FoundAt}
+use Rattle.token.specs.KeptLaws.{place-is, kept-none, kept-first}
 use Rattle.row.specs.declared.Row.{Row}
 use Rattle.row.specs.Row.{width, numbers, oneRun, positional, named, plain, role, option, diagnostic, withRows}
 use Rattle.row.specs.Laws.{Writes, writes-start, writes-put}
@@ -26,11 +26,11 @@ use Rattle.attr_ir.specs.declared.Name.the-variants as asks
 use Rattle.attr_ir.specs.Look.{isSymbol, isQuote, nextSpace, nextEquals, symbolSight, sight, decided, look}
 use Rattle.attr_ir.specs.Ir.{nameTokens, valueTokens, nameOf, namedIr, keyValueIr, irAs, attrIr, runsOf, tokensOf}
 use Rattle.attr_ir.specs.Ir as is
-use Rattle.attr_ir.specs.Parts.{InLine}
+use Rattle.attr_ir.specs.Places.{InLine}
 use Rattle.attribute.specs.declared.Written.{Written}
 use Rattle.attribute.specs.Attribute.{Read, oneRow, rowFirst, isStop, pieces, shorthandRead, groups, groupRead, idRead, cutRead, irRead, reading, attribute}
 use Rattle.attribute.specs.Laws.{again, cut-has-symbol}
-use Rattle.attribute.specs.Parts.{written, WroteId, StopFirst}
+use Rattle.attribute.specs.Written.{written, WroteId, StopFirst}
 use Rattle.attribute.proofs.Lists.{run-count}
 
 -- ---- only the first token decides for shorthand

@@ -9,7 +9,7 @@ use lib.ListN.{length}
 use Rattle.token.specs.declared.Run.{Run}
 use Rattle.token.specs.Line.{Token}
 use Rattle.token.specs.Run.{isComma, isHash, isWhitespace, isEquals, ofOne, upTo, onward, trimStart, leave, trimEnd, trim, quoted, inside, front, unquote, runOf, without}
-use Rattle.token.specs.Kept.{onward-later, unquote-plain}
+use Rattle.token.specs.KeptLaws.{onward-later, unquote-plain}
 use Rattle.row.specs.declared.Row.{Row}
 use Rattle.row.specs.Row.{positional}
 use Rattle.attr_ir.specs.declared.Reading.{Reading}
@@ -21,6 +21,7 @@ use Rattle.attr_ir.specs.Look.{isSymbol, isQuote, nextEquals, symbolSight, sigh
 use Rattle.attr_ir.specs.Ir.{shorthand, nameTokens, lessFirst, lessSpace, value, valueTokens, nameOf, namedIr, keyValueIr, irAs, attrIr}
 use Rattle.attr_ir.specs.Ir as is
 use Rattle.attribute.specs.Attribute.{Read, rowFirst, oneRow, isStop, Piece, pieces, lastEmpty, shorthandRead, laterGroups, groups, unlessEmpty, groupRows, idRead, cutRead, irRead, reading, attributeIn, attribute}
+use Rattle.attribute.specs.Written.{orOne}
 
 -- ---- how many tokens are left
 
@@ -201,11 +202,6 @@ unfolding attrIr
 ir-as block ts r e = ap (irAs block ts) e
 
 -- ---- "an attribute of n tokens gives at most max(1, n) rows": why 5 × tokens is room enough
-
--- max(1, n)
-abbrev pub orOne : ℕ → ℕ
-orOne zero = 1
-orOne (suc n) = suc n
 
 or-one : (n : ℕ) → (n ≤ orOne n) × (1 ≤ orOne n)
 or-one zero = (omega arith, omega arith)

@@ -1,4 +1,4 @@
 pub mod Attribute
+pub mod Written
 pub mod Laws
-pub mod Parts
-pub mod Bench
+pub mod Examples

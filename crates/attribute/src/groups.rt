@@ -13,8 +13,7 @@ ghost use lib.ListN.{length};
 ghost use Rattle.token.specs.Kind.{attrRef};
 ghost use Rattle.token.specs.Line.{lineOf, mostTokens};
 ghost use Rattle.token.specs.Run.{kept, inRun, ofKind, trim};
-ghost use Rattle.row.specs.Row.{width, oneRun};
-ghost use Rattle.row.specs.Laws.{Wrote};
+ghost use Rattle.row.specs.Row.{width, oneRun, Wrote};
 ghost use Rattle.attribute.specs.Attribute.{unlessEmpty, groups, groupRows};
 
 // Writes the row of a group, if any token is left when it is trimmed.

@@ -26,13 +26,13 @@ ghost use mathlib.Core.Path.{_≡_};
 ghost use Prim.Native.Nat.{_+_, _*_, _-_, _≤_, _<_};
 ghost use lib.ListN.{length};
 ghost use Rattle.token.specs.Line.{lineOf};
-ghost use Rattle.token.specs.LineLaws.{Lent};
+ghost use Rattle.token.specs.Lent.{Lent};
 ghost use Rattle.token.specs.Run.{kept, inRun, upTo, onward};
 ghost use Rattle.row.specs.Row.{width, withRows};
 ghost use Rattle.attr_ir.specs.Look.{isSymbol};
-ghost use Rattle.attr_ir.specs.Parts.{InLine};
+ghost use Rattle.attr_ir.specs.Places.{InLine};
 ghost use Rattle.attribute.specs.Attribute.{attribute, cutRead};
-ghost use Rattle.attribute.specs.Parts.{written};
+ghost use Rattle.attribute.specs.Written.{written};
 
 mod groups;
 mod shorthand;

@@ -15,7 +15,7 @@ ghost use Rattle.token.specs.Line.{Token};
 ghost use Rattle.token.specs.Run.{runOf};
 ghost use Rattle.row.specs.Row.{width, twoRuns, diagnostic, Fits, small};
 ghost use Rattle.attribute.specs.Attribute.{oneRow, idRead};
-ghost use Rattle.attribute.specs.Parts.{WroteId};
+ghost use Rattle.attribute.specs.Written.{WroteId};
 
 // Writes one row; whether the list has an id is handed on.
 pub fn put_one(rows: &mut [u32], at: usize, row: Row, id: bool) -> Written

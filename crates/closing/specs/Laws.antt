@@ -1,10 +1,10 @@
--- The closing bracket in words, and laws for the loops that look for it.
+-- Laws of the closing bracket: for the loops that look for it, and that what they find is what the words say.
 use Prim.Native.Nat.{ℕ, zero, suc, _+_, _-_, _≤_, _<_}
 use native.Mathlib.Omega.{arith}
 use native.Mathlib.Numerals.{add-one}
 use native.Mathlib.Decide.{decLt, ℕ-discrete}
 use mathlib.Core.Bool.{cond, not, _&&_}
-use mathlib.Core.Path.{_≡_, refl, sym, subst, _∙_}
+use mathlib.Core.Path.{_≡_, refl, sym, ap, subst, _∙_}
 use mathlib.Core.List.{List, [], _∷_}
 use lib.Dec.{eqb}
 use lib.ListN.{length, getD, drop, drop-of-length-le}
@@ -13,31 +13,8 @@ use borrow.Author.Tests.{eq-eqb, ne-eqb}
 use Rattle.token.specs.Kind.{backslash, closeBracket}
 use Rattle.closing.specs.declared.Closing.{Closing}
 use Rattle.closing.specs.declared.Closing.the-variants.{At, Nowhere}
-use Rattle.closing.specs.Closing.{at, lastBracket, unescaped, nextBracket}
-
--- ---- in words
-
--- a CloseBracket at q, after the token at `from`, that stands after a Backslash
-pub record Escaped (kinds : List ℕ) (from q : ℕ) : Type 0 where
-  pub later : from < q
-  pub after : getD kinds (q - 1) 0 ≡ backslash
-
--- the token at p closes: it is a CloseBracket; it is the token at `from`, or its preceding token is not Backslash; each CloseBracket before it, from
--- `from` on, has Backslash before it
-pub record ClosesAt (kinds : List ℕ) (from p : ℕ) : Type 0 where
-  pub low : from ≤ p
-  pub high : p < length kinds
-  pub bracket : getD kinds p 0 ≡ closeBracket
-  pub free : from < p → getD kinds (p - 1) 0 ≡ backslash → ⊥
-  pub first : (q : ℕ) → from ≤ q → q < p → getD kinds q 0 ≡ closeBracket → Escaped kinds from q
-
--- no token closes: each CloseBracket from `from` on has Backslash before it, and the token at `from` is none
-abbrev pub NoneCloses : (kinds : List ℕ) → (from : ℕ) → Type 0
-NoneCloses kinds from = (q : ℕ) → from ≤ q → q < length kinds → getD kinds q 0 ≡ closeBracket → Escaped kinds from q
-
-abbrev pub Found : (kinds : List ℕ) → (from : ℕ) → Closing → Type 0
-Found kinds from (At p) = ClosesAt kinds from (p .0)
-Found kinds from Nowhere = NoneCloses kinds from
+use Rattle.closing.specs.Closing.{numbersOf, at, lastBracket, unescaped, nextBracket}
+use Rattle.closing.specs.Closes.{Escaped, ClosesAt, Found, FoundLast}
 
 -- ---- the next CloseBracket that is not escaped, place by place
 
@@ -128,11 +105,6 @@ module _ (kinds : List ℕ) (from : ℕ) where
           subst (Found kinds from) (next-after kinds from e)
           (found-from (length kinds) (from + 1) (omega arith) (omega arith) (λ q low high f. absurd (e (subst (λ (x : ℕ). getD kinds x 0 ≡ closeBracket) (let s : q ≡ from = omega arith in s) f))))
 
--- where the last token closes it is a CloseBracket, and where none closes it is not
-abbrev pub FoundLast : (kinds : List ℕ) → Closing → Type 0
-FoundLast kinds (At p) = (p .0 ≡ length kinds - 1) × (getD kinds (p .0) 0 ≡ closeBracket)
-FoundLast kinds Nowhere = getD kinds (length kinds - 1) 0 ≡ closeBracket → ⊥
-
 pub last-none : (kinds : List ℕ) → length kinds ≡ 0 → Nowhere ≡ lastBracket kinds
 unfolding lastBracket
 last-none [] e = refl
@@ -151,5 +123,30 @@ module _ (kinds : List ℕ) where
   last-found = go (ℕ-discrete (getD kinds (length kinds - 1) 0) closeBracket)
     where
       go : Dec (getD kinds (length kinds - 1) 0 ≡ closeBracket) → FoundLast kinds (lastBracket kinds)
-      go (yes e) = subst (FoundLast kinds) (last-here e) (refl, e)
+      go (yes e) = subst (FoundLast kinds) (last-here e) (record { last = refl; bracket = e })
       go (no e) = subst (FoundLast kinds) (last-not e) e
+
+-- ---- the words leave one bracket
+
+pub closes-one : (kinds : List ℕ) (from p q : ℕ) → ClosesAt kinds from p → ClosesAt kinds from q → p ≡ q
+closes-one kinds from p q v w = go (decLt p q) (decLt q p)
+  where
+    go : Dec (p < q) → Dec (q < p) → p ≡ q
+    go (yes l) d = let s = w .first p (v .low) l (v .bracket) in absurd (v .free (s .later) (s .after))
+    go (no l) (yes m) = let s = v .first q (w .low) m (w .bracket) in absurd (w .free (s .later) (s .after))
+    go (no l) (no m) = omega arith
+
+pub next-is : (kinds : List ℕ) (from p : ℕ) → ClosesAt kinds from p → nextBracket kinds from ≡ at p
+next-is kinds from p w = go (nextBracket kinds from) (next-found kinds from (omega (arith, w .low, w .high)))
+  where
+    go : (c : Closing) → Found kinds from c → c ≡ at p
+    go (At q) v = ap at (closes-one kinds from (q .0) p v w)
+    go Nowhere v = let s = v p (w .low) (w .high) (w .bracket) in absurd (w .free (s .later) (s .after))
+
+-- ---- the numbers tell the case
+
+pub same-case : (c d : Closing) → numbersOf c ≡ numbersOf d → c ≡ d
+same-case (At p) (At q) e = ap at (ap (λ n. n .place) e)
+same-case (At p) Nowhere e = let z : _≡_ {A = ℕ} 0 8 = ap (λ n. n .refusal) e in absurd (omega arith)
+same-case Nowhere (At q) e = let z : _≡_ {A = ℕ} 8 0 = ap (λ n. n .refusal) e in absurd (omega arith)
+same-case Nowhere Nowhere e = refl

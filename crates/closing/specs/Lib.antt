@@ -1,5 +1,7 @@
 pub mod Closing
+pub mod Closes
 pub mod Link
-pub mod Bench
+pub mod Examples
 pub mod Laws
+pub mod ClosingLaws
 pub mod LinkLaws

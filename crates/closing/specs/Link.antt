@@ -11,6 +11,15 @@ use Rattle.closing.specs.declared.look.Seen.{Seen}
 use Rattle.closing.specs.declared.look.Turn.{Turn}
 use Rattle.closing.specs.declared.look.Turn.the-variants.{Equals, Closed, On}
 
+-- What each case says: 1 for a list; 0 for text, and the place where it ends.
+pub record Holds : Type 0 where
+  pub list : ℕ
+  pub end : ℕ
+
+abbrev pub holdsOf : LinkMacro → Holds
+holdsOf AsList = record { list = 1; end = 0 }
+holdsOf (AsText p) = record { list = 0; end = p .0 }
+
 abbrev pub sight : (quoted nested : Bool) → (last : ℕ) → Seen
 sight quoted nested last = record { quoted = quoted; nested = nested; last = last }
 

@@ -3,7 +3,7 @@ use Prim.Native.Nat.{ℕ, zero, suc, _+_, _*_, _-_, _≤_, _<_}
 use native.Mathlib.Omega.{arith}
 use native.Mathlib.Numerals.{add-one}
 use mathlib.Core.Bool.{Bool, true, false, not}
-use mathlib.Core.Path.{_≡_, refl, sym, _∙_}
+use mathlib.Core.Path.{_≡_, refl, sym, ap, _∙_}
 use mathlib.Core.List.{List}
 use lib.Dec.{eqb}
 use lib.ListN.{length, getD}
@@ -14,7 +14,7 @@ use Rattle.closing.specs.declared.LinkMacro.the-variants.{AsList, AsText
 use Rattle.closing.specs.declared.look.Seen.{Seen}
 use Rattle.closing.specs.declared.look.Turn.{Turn}
 use Rattle.closing.specs.declared.look.Turn.the-variants.{Equals, Closed, On}
-use Rattle.closing.specs.Link.{sight, goesOn, turn, text, decided, lookFrom, linkMacro}
+use Rattle.closing.specs.Link.{holdsOf, sight, goesOn, turn, text, decided, lookFrom, linkMacro}
 
 module _ (s : Seen) (k : ℕ) (one : Bool) where
   abbrev escaped : Bool
@@ -142,3 +142,11 @@ module _ (kinds pairs : List ℕ) where
   pub link-within : Within (length kinds - 1) (linkMacro kinds pairs)
   unfolding linkMacro
   link-within = look-within (sight false false eof) 0 (length kinds - 1) (length kinds - 1) (omega arith)
+
+-- ---- what is said tells the case
+
+pub same-link : (c d : LinkMacro) → holdsOf c ≡ holdsOf d → c ≡ d
+same-link AsList AsList e = refl
+same-link AsList (AsText q) e = let z : _≡_ {A = ℕ} 1 0 = ap (λ h. h .list) e in absurd (omega arith)
+same-link (AsText p) AsList e = let z : _≡_ {A = ℕ} 0 1 = ap (λ h. h .list) e in absurd (omega arith)
+same-link (AsText p) (AsText q) e = ap text (ap (λ h. h .end) e)

@@ -1,14 +1,18 @@
 // Where an attribute list closes, and whether a link's brackets hold a list or text (document 01, "Lists and links").
+mod bracket;
+mod look;
+
+use bracket::last_bracket;
+use bracket::next_bracket;
 use token::TokenPlace;
 use token::kind;
 use token::line::length_of;
 ghost use mathlib.Core.Path.{_≡_};
-ghost use Prim.Native.Nat.{_*_, _<_};
-ghost use lib.ListN.{length};
-ghost use Rattle.closing.specs.Closing.{lastBracket, nextBracket};
-ghost use Rattle.closing.specs.Link.{linkMacro};
-
-mod look;
+ghost use Prim.Native.Nat.{_*_, _≤_, _<_};
+ghost use lib.ListN.{length, take};
+ghost use Rattle.delimiters.specs.Delimit.{dividing};
+ghost use Rattle.closing.specs.Closing.{numbersOf, closing};
+ghost use Rattle.closing.specs.Link.{holdsOf, linkMacro};
 
 // The place of the closing bracket, or that there is none.
 pub enum Closing {
@@ -22,46 +26,32 @@ pub enum LinkMacro {
     AsText(TokenPlace),
 }
 
-// The closing bracket of the block and block macro entries: the last token, if it is a CloseBracket.
-pub fn last_bracket(kinds: &[u8]) -> Closing
-    ensures closing { λ r. ⌜ r ≡ lastBracket (now (kinds .entry)) ⌝ }
+fn wide(x: u16) -> usize
+    ensures { λ r. ⌜ r ≡ x ⌝ }
 {
-    let tokens = kinds.len();
-    if tokens == 0 {
-        return Closing::Nowhere;
-    }
-    if kinds[tokens - 1] != kind::CLOSE_BRACKET {
-        return Closing::Nowhere;
-    }
-    Closing::At(TokenPlace(tokens - 1))
+    x as usize
 }
 
-// The closing bracket of the inline entry, whose last attribute begins at `from`: the token there, if it is a CloseBracket, else the next
-// CloseBracket whose preceding token is not Backslash.
-pub fn next_bracket(kinds: &[u8], from: TokenPlace) -> Closing
-    requires { ⌜ from .0 < length (now kinds) ⌝ }
-    ensures closing { λ r. ⌜ r ≡ nextBracket (now (kinds .entry)) (from .0) ⌝ }
+// The closing bracket of a line; the first `n` of `commas` are its dividing commas. `full` says that the list is the rest of a full line, which its
+// last token closes.
+pub fn closing_bracket<'a>(kinds: &'a [u8], commas: &'a [u16], n: usize, full: bool) -> Closing
+    requires { ⌜ (n ≤ length (now commas)) × (0 < length (now kinds)) × (take n (now commas) ≡ dividing (now kinds)) ⌝ }
+    ensures { λ r. ⌜ numbersOf r ≡ numbersOf (closing full (now (kinds .entry))) ⌝ }
 {
-    let start = from.0;
-    if kinds[start] == kind::CLOSE_BRACKET {
-        return Closing::At(from);
+    if full {
+        return last_bracket(kinds);
     }
-    let mut i = start + 1;
-    while i < kinds.len() {
-        if kinds[i] == kind::CLOSE_BRACKET {
-            if kinds[i - 1] != kind::BACKSLASH {
-                return Closing::At(TokenPlace(i));
-            }
-        }
-        i += 1;
+    if n == 0 {
+        return next_bracket(kinds, TokenPlace(0));
     }
-    Closing::Nowhere
+    let last = wide(commas[n - 1]);
+    next_bracket(kinds, TokenPlace(last + 1))
 }
 
 // Whether a link's brackets hold a list, or text and where it ends. All tokens but the last are looked at.
 pub fn link_macro<'a>(kinds: &'a [u8], pairs: &'a [u32]) -> LinkMacro
     requires { ⌜ length (now pairs) ≡ 2 * length (now kinds) ⌝ }
-    ensures holds { λ r. ⌜ r ≡ linkMacro (now (kinds .entry)) (now (pairs .entry)) ⌝ }
+    ensures { λ r. ⌜ holdsOf r ≡ holdsOf (linkMacro (now (kinds .entry)) (now (pairs .entry))) ⌝ }
 {
     let mut seen = look::Seen {
         quoted: false,

@@ -10,10 +10,11 @@ use lib.ListN.{length, take, set, length-take, length-set}
 use lib.Seq.{take-all, take-take, length-take-le, take-suc-set}
 use borrow.Author.Tests.{eq-eqb, ne-eqb}
 use borrow.Author.Count.{below-more}
-use Rattle.token.specs.Kind.{closeBracket, comma, doubleQuote, singleQuote}
-use Rattle.delimiters.specs.Count.{counted, kindAt, Quote, double, single, quoteKind}
+use Rattle.token.specs.Kind.{closeBracket, comma, doubleQuote, singleQuote, kindAt}
+use Rattle.delimiters.specs.Count.{counted, Quote, double, single, quoteKind}
 use Rattle.delimiters.specs.Delimit.{State, start, atComma, put, note, atQuote, after, dividing}
 use Rattle.delimiters.specs.Stored.{storedAfter, stored}
+use Rattle.delimiters.specs.Outcome.{Outcome}
 use Rattle.delimiters.specs.CountLaws.{count-is}
 use Rattle.delimiters.specs.StepLaws.{rejoined, rejoined-noted, comma-apart, after-comma, after-quote, after-other}
 
@@ -185,15 +186,9 @@ module _ {kinds cs : List ℕ} {n d s i : ℕ} (v : Going kinds cs n (notes d s)
       no-quote double = c
       no-quote single = e
 
--- as the token loop is left: what the contract says
-pub record Found (kinds lent cs : List ℕ) (n i : ℕ) : Type 0 where
-  pub count : i ≡ counted kinds
-  pub number : n - 1 ≡ length (dividing kinds)
-  pub places : take (n - 1) cs ≡ dividing kinds
-  pub slice : cs ≡ stored kinds lent
-  pub within : (n - 1 ≤ i) × (i ≤ length kinds - 1)
+-- ---- as the token loop is left: what the contract says
 
-pub found : (kinds lent cs : List ℕ) (n d s i : ℕ) → cs ≡ storedAfter kinds lent i → Going kinds cs n (notes d s) i → length kinds ≤ length cs → (length kinds ≤ i + 1) ⊎ (kindAt kinds i ≡ closeBracket) → Found kinds lent cs n i
+pub found : (kinds lent cs : List ℕ) (n d s i : ℕ) → cs ≡ storedAfter kinds lent i → Going kinds cs n (notes d s) i → length kinds ≤ length cs → (length kinds ≤ i + 1) ⊎ (kindAt kinds i ≡ closeBracket) → Outcome kinds lent (record { counted = i; commas = n - 1 }) cs
 unfolding dividing stored
 found kinds lent cs n d s i st v big w =
     let e : counted kinds ≡ i = count-is kinds i (record { within = v .within; none-closes = v .none-closes; ends = ends w }) in
@@ -203,7 +198,8 @@ found kinds lent cs n d s i st v big w =
       number = sym (length-take-le (n - 1) cs (omega (arith, v .few, v .within))) ∙ ap length places;
       places = places;
       slice = rw e st;
-      within = (omega (arith, v .few), v .within);
+      few = omega (arith, v .few);
+      within = v .within;
     }
   where
     ends : (length kinds ≤ i + 1) ⊎ (kindAt kinds i ≡ closeBracket) → (i ≡ length kinds - 1) ⊎ (kindAt kinds i ≡ closeBracket)

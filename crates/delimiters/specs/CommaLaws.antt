@@ -8,10 +8,9 @@ use mathlib.Core.List.{List, [], _∷_, _++_}
 use lib.ListN.{length, getD, take, drop, length-append, length-take}
 use lib.Seq.{drop-cons, drop-length}
 use borrow.Author.Tests.{lt-ltb, le-ltb, le-leb, lt-leb, eq-eqb, ne-eqb}
-use Rattle.token.specs.Kind.{comma}
-use Rattle.delimiters.specs.Count.{kindAt}
+use Rattle.token.specs.Kind.{comma, kindAt}
 use Rattle.delimiters.specs.Delimit.{start, after, Stretch, parted}
-use Rattle.delimiters.specs.Divide.{times, held, Ascending}
+use Rattle.delimiters.specs.Divide.{times, covers, Ascending}
 use Rattle.delimiters.specs.StepLaws.{Turn, pushed, kept, cut, turn}
 
 -- ---- places that ascend
@@ -122,17 +121,17 @@ module _ (kinds : List ℕ) where
 
 -- ---- each place is in one of the stretches or is one of the commas that part them
 
-held-in : (p f t : ℕ) (ss : List Stretch) → f ≤ p → p < t → held p (record { from = f; to = t } ∷ ss) ≡ suc (held p ss)
-unfolding held
-held-in p f t ss le lt = rw (le-leb f p le, lt-ltb p t lt)
+covers-in : (p f t : ℕ) (ss : List Stretch) → f ≤ p → p < t → covers p (record { from = f; to = t } ∷ ss) ≡ suc (covers p ss)
+unfolding covers
+covers-in p f t ss le lt = rw (le-leb f p le, lt-ltb p t lt)
 
-held-before : (p f t : ℕ) (ss : List Stretch) → p < f → held p (record { from = f; to = t } ∷ ss) ≡ held p ss
-unfolding held
-held-before p f t ss lt = rw (lt-leb f p lt)
+covers-before : (p f t : ℕ) (ss : List Stretch) → p < f → covers p (record { from = f; to = t } ∷ ss) ≡ covers p ss
+unfolding covers
+covers-before p f t ss lt = rw (lt-leb f p lt)
 
-held-past : (p f t : ℕ) (ss : List Stretch) → f ≤ p → t ≤ p → held p (record { from = f; to = t } ∷ ss) ≡ held p ss
-unfolding held
-held-past p f t ss le le′ = rw (le-leb f p le, le-ltb p t le′)
+covers-past : (p f t : ℕ) (ss : List Stretch) → f ≤ p → t ≤ p → covers p (record { from = f; to = t } ∷ ss) ≡ covers p ss
+unfolding covers
+covers-past p f t ss le le′ = rw (le-leb f p le, le-ltb p t le′)
 
 times-same : (p c : ℕ) (cs : List ℕ) → c ≡ p → times p (c ∷ cs) ≡ suc (times p cs)
 unfolding times
@@ -144,22 +143,22 @@ times-apart p c cs e = rw (ne-eqb c p e)
 
 module _ (end p : ℕ) where
   -- a place before them all is in none
-  part-none : (f : ℕ) (cs : List ℕ) → Ascending f cs end → p < f → held p (parted f cs end) + times p cs ≡ 0
-  unfolding parted held times
+  part-none : (f : ℕ) (cs : List ℕ) → Ascending f cs end → p < f → covers p (parted f cs end) + times p cs ≡ 0
+  unfolding parted covers times
   part-none f [] h lt = rw (lt-leb f p lt) (omega arith)
   part-none f (c ∷ cs) h lt =
-      omega (arith, held-before p f c (parted (c + 1) cs end) lt, times-apart p c cs (λ e. omega (arith, h .0)), part-none (c + 1) cs (h .1) (omega (arith, h .0)))
+      omega (arith, covers-before p f c (parted (c + 1) cs end) lt, times-apart p c cs (λ e. omega (arith, h .0)), part-none (c + 1) cs (h .1) (omega (arith, h .0)))
 
-  pub part-once : (f : ℕ) (cs : List ℕ) → Ascending f cs end → f ≤ p → p < end → held p (parted f cs end) + times p cs ≡ 1
-  unfolding parted held times
+  pub part-once : (f : ℕ) (cs : List ℕ) → Ascending f cs end → f ≤ p → p < end → covers p (parted f cs end) + times p cs ≡ 1
+  unfolding parted covers times
   part-once f [] h le lt = rw (le-leb f p le, lt-ltb p end lt) (omega arith)
   part-once f (c ∷ cs) h le lt = go (decLt p c) (decLt c p) (part-once (c + 1) cs (h .1))
     where
-      go : Dec (p < c) → Dec (c < p) → (c + 1 ≤ p → p < end → held p (parted (c + 1) cs end) + times p cs ≡ 1) → held p (record { from = f; to = c } ∷ parted (c + 1) cs end) + times p (c ∷ cs) ≡ 1
-      go (yes l) d ih = omega (arith, held-in p f c (parted (c + 1) cs end) le l, times-apart p c cs (λ e. omega arith), part-none (c + 1) cs (h .1) (omega arith))
-      go (no l) (yes l′) ih = omega (arith, held-past p f c (parted (c + 1) cs end) le (omega arith), times-apart p c cs (λ e. omega arith), ih (omega arith) lt)
+      go : Dec (p < c) → Dec (c < p) → (c + 1 ≤ p → p < end → covers p (parted (c + 1) cs end) + times p cs ≡ 1) → covers p (record { from = f; to = c } ∷ parted (c + 1) cs end) + times p (c ∷ cs) ≡ 1
+      go (yes l) d ih = omega (arith, covers-in p f c (parted (c + 1) cs end) le l, times-apart p c cs (λ e. omega arith), part-none (c + 1) cs (h .1) (omega arith))
+      go (no l) (yes l′) ih = omega (arith, covers-past p f c (parted (c + 1) cs end) le (omega arith), times-apart p c cs (λ e. omega arith), ih (omega arith) lt)
       go (no l) (no l′) ih =
-          omega (arith, held-past p f c (parted (c + 1) cs end) le (omega arith), times-same p c cs (omega arith), part-none (c + 1) cs (h .1) (omega arith))
+          omega (arith, covers-past p f c (parted (c + 1) cs end) le (omega arith), times-same p c cs (omega arith), part-none (c + 1) cs (h .1) (omega arith))
 
 -- ---- the stretches in the order of reading, for a loop that reads them one by one
 

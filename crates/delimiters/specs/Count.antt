@@ -3,7 +3,6 @@ use Prim.Native.Nat.{ℕ, suc}
 use mathlib.Core.Bool.{cond}
 use mathlib.Core.List.{List, [], _∷_}
 use lib.Dec.{eqb}
-use lib.ListN.{getD}
 use Rattle.token.specs.Kind.{closeBracket, doubleQuote, singleQuote}
 
 -- "Count all tokens but the last; the count ends at once at the first CloseBracket, itself not counted."
@@ -11,10 +10,6 @@ unfoldable pub counted : List ℕ → ℕ
 counted [] = 0
 counted (k ∷ []) = 0
 counted (k ∷ l ∷ ks) = cond (eqb k closeBracket) 0 (suc (counted (l ∷ ks)))
-
--- the kind of the token at place p
-abbrev pub kindAt : List ℕ → ℕ → ℕ
-kindAt kinds p = getD kinds p 0
 
 -- "Quotes and commas go by token kind alone."
 pub data Quote : Type 0 where

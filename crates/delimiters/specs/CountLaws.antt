@@ -9,8 +9,8 @@ use mathlib.Core.Logic.{_⊎_, inl, inr}
 use lib.Dec.{eqb}
 use lib.ListN.{length}
 use borrow.Author.Tests.{eqb-true, eqb-false, eq-eqb, ne-eqb}
-use Rattle.token.specs.Kind.{closeBracket}
-use Rattle.delimiters.specs.Count.{counted, kindAt}
+use Rattle.token.specs.Kind.{closeBracket, kindAt}
+use Rattle.delimiters.specs.Count.{counted}
 
 -- no CloseBracket is counted, and the first token that is not counted is the last of the line or a CloseBracket
 pub record Counts (kinds : List ℕ) (n : ℕ) : Type 0 where

@@ -4,8 +4,8 @@ use mathlib.Core.Bool.{cond}
 use mathlib.Core.List.{List, [], _∷_, _++_}
 use lib.Dec.{eqb}
 use lib.ListN.{length, take}
-use Rattle.token.specs.Kind.{comma, doubleQuote, singleQuote}
-use Rattle.delimiters.specs.Count.{counted, kindAt, Quote, double, single}
+use Rattle.token.specs.Kind.{comma, doubleQuote, singleQuote, kindAt}
+use Rattle.delimiters.specs.Count.{counted, Quote, double, single}
 
 -- ---- the stretches as the count goes
 

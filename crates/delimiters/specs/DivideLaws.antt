@@ -1,20 +1,20 @@
 -- Every line is divided as specs/Divide.antt says.
-use Prim.Native.Nat.{ℕ, _+_, _≤_, _<_}
+use Prim.Native.Nat.{ℕ, zero, suc, _+_, _≤_, _<_}
 use native.Mathlib.Omega.{arith}
 use native.Mathlib.Decide.{decLt}
-use mathlib.Core.Path.{_≡_, sym, ap, subst, _∙_}
-use mathlib.Core.List.{List, []}
+use mathlib.Core.Path.{_≡_, refl, sym, ap, subst, _∙_}
+use mathlib.Core.List.{List, [], _∷_}
 use mathlib.Core.Logic.{inl, inr}
 use lib.ListN.{length, getD, List·getD-eq-default}
 use borrow.Author.Tests.{ne-eqb}
-use Rattle.token.specs.Kind.{comma, closeBracket}
-use Rattle.delimiters.specs.Count.{counted, kindAt, Quote, double, single}
-use Rattle.delimiters.specs.Delimit.{start, after, dividing, parted, attributes}
+use Rattle.token.specs.Kind.{comma, closeBracket, kindAt}
+use Rattle.delimiters.specs.Count.{counted, Quote, double, single}
+use Rattle.delimiters.specs.Delimit.{start, after, dividing, Stretch, parted, attributes}
 use Rattle.delimiters.specs.Pairs.{Pair, OneBetween, Inside, Uncrossed}
-use Rattle.delimiters.specs.Divide.{times, held, Ascending, Divides, Closes, Divided}
+use Rattle.delimiters.specs.Divide.{times, covers, Ascending, howMany, Follow, Divides, Closes, Divided}
 use Rattle.delimiters.specs.CountLaws.{bracket-past, count-some}
 use Rattle.delimiters.specs.StepLaws.{otherQuote}
-use Rattle.delimiters.specs.CommaLaws.{ascending-to, ascending-length, ascending-at, ascends, comma-at, part-once}
+use Rattle.delimiters.specs.CommaLaws.{ascending-to, ascending-length, ascending-at, ascends, comma-at, part-once, parted-length}
 use Rattle.delimiters.specs.PairLaws.{stays, gone}
 
 -- ---- the dividing commas: they ascend and are counted; none where nothing is counted
@@ -53,7 +53,7 @@ attributes-some kinds end some = rw (ne-eqb (counted kinds) 0 (λ e. omega arith
 
 -- ---- each token is in exactly one attribute or is exactly one dividing comma
 
-pub each-once : (kinds : List ℕ) (end p : ℕ) → 0 < counted kinds → counted kinds ≤ end → p < end → held p (attributes kinds end) + times p (dividing kinds) ≡ 1
+pub each-once : (kinds : List ℕ) (end p : ℕ) → 0 < counted kinds → counted kinds ≤ end → p < end → covers p (attributes kinds end) + times p (dividing kinds) ≡ 1
 each-once kinds end p some le lt =
     rw (attributes-some kinds end some) (part-once end p 0 (dividing kinds) (dividing-ascend-to kinds end le) (omega arith) lt)
 
@@ -94,11 +94,56 @@ closes-some kinds end w lt = count-some kinds (long (decLt end (length kinds))) 
     long (yes l) = omega arith
     long (no l) = let z : 0 ≡ closeBracket = sym (List·getD-eq-default kinds 0 (omega arith)) ∙ w .bracket in absurd (omega arith)
 
+-- ---- the attributes in the order of the line
+
+follow-parted : (f : ℕ) (cs : List ℕ) (end : ℕ) → Follow f cs end (parted f cs end)
+unfolding parted
+follow-parted f [] end = (refl, refl)
+follow-parted f (c ∷ cs) end = (refl, refl, follow-parted (c + 1) cs end)
+
+-- as many as there should be, one after the other: no others are these
+pub follow-is : (f : ℕ) (cs : List ℕ) (end : ℕ) (ss : List Stretch) → length ss ≡ suc (length cs) → Follow f cs end ss → ss ≡ parted f cs end
+unfolding parted
+follow-is f cs end [] n w = absurd (omega arith)
+follow-is f [] end (s ∷ []) n w = rw (w .0, w .1) refl
+follow-is f [] end (s ∷ t ∷ ss) n w = absurd (omega arith)
+follow-is f (c ∷ cs) end (s ∷ ss) n w = rw (w .0, w .1, follow-is (c + 1) cs end ss (omega arith) (w .2)) refl
+
+module _ (kinds : List ℕ) (end : ℕ) where
+  pub attributes-count : length (attributes kinds end) ≡ howMany (counted kinds) (length (dividing kinds))
+  attributes-count = go (counted kinds) refl
+    where
+      go : (n : ℕ) → counted kinds ≡ n → length (attributes kinds end) ≡ howMany n (length (dividing kinds))
+      go zero e = ap length (attributes-none kinds end e)
+      go (suc n) e = ap length (attributes-some kinds end (omega arith)) ∙ parted-length 0 (dividing kinds) end
+
+  pub attributes-follow : Follow 0 (dividing kinds) end (attributes kinds end)
+  attributes-follow = go (counted kinds) refl
+    where
+      go : (n : ℕ) → counted kinds ≡ n → Follow 0 (dividing kinds) end (attributes kinds end)
+      go zero e = subst (Follow 0 (dividing kinds) end) (sym (attributes-none kinds end e)) tt
+      go (suc n) e = subst (Follow 0 (dividing kinds) end) (sym (attributes-some kinds end (omega arith))) (follow-parted 0 (dividing kinds) end)
+
+  none-left : (ss : List Stretch) → length ss ≡ 0 → ss ≡ []
+  none-left [] n = refl
+  none-left (s ∷ ss) n = absurd (omega arith)
+
+  pub attributes-are : (ss : List Stretch) → length ss ≡ howMany (counted kinds) (length (dividing kinds)) → Follow 0 (dividing kinds) end ss → ss ≡ attributes kinds end
+  attributes-are ss = go (counted kinds) refl
+    where
+      go : (n : ℕ) → counted kinds ≡ n → length ss ≡ howMany n (length (dividing kinds)) → Follow 0 (dividing kinds) end ss → ss ≡ attributes kinds end
+      go zero e h w = none-left ss h ∙ sym (attributes-none kinds end e)
+      go (suc n) e h w = follow-is 0 (dividing kinds) end ss h w ∙ sym (attributes-some kinds end (omega arith))
+
+-- ---- all of it
+
 pub divided : (kinds : List ℕ) (end : ℕ) → Closes kinds end → Divided kinds end
 divided kinds end w =
     let within = bracket-past kinds end (w .bracket) in
     record {
       within = within;
+      how-many = attributes-count kinds end;
+      follow = attributes-follow kinds end;
       each-once = λ p lt. each-once kinds end p (closes-some kinds end w (omega arith)) within lt;
       in-order = dividing-ascend kinds;
       only-commas = only-commas kinds;

@@ -3,7 +3,8 @@ pub mod Delimit
 pub mod Stored
 pub mod Pairs
 pub mod Divide
-pub mod Bench
+pub mod Outcome
+pub mod Examples
 pub mod CountLaws
 pub mod StepLaws
 pub mod CommaLaws

@@ -10,8 +10,8 @@ use mathlib.Core.Logic.{_⊎_, inl, inr}
 use lib.Dec.{eqb}
 use lib.ListN.{length, getD, take, length-take, length-append, List·getD-append}
 use lib.Seq.{take-length, take-take, take-append-le, getD-append-seam, getD-take}
-use Rattle.token.specs.Kind.{comma}
-use Rattle.delimiters.specs.Count.{counted, kindAt, Quote, quoteKind}
+use Rattle.token.specs.Kind.{comma, kindAt}
+use Rattle.delimiters.specs.Count.{counted, Quote, quoteKind}
 use Rattle.delimiters.specs.Delimit.{State, stretches, atComma, after}
 use Rattle.delimiters.specs.Pairs.{before, Between, OneBetween, Pair, Inside}
 use Rattle.delimiters.specs.StepLaws.{otherQuote, same-or-other, quotes-apart, comma-apart, after-comma, after-second, before-one, Turn, pushed, kept, cut, turn, Open, none, since, open-at}

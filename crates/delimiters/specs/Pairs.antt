@@ -5,7 +5,8 @@ use mathlib.Core.Path.{_≡_}
 use mathlib.Core.List.{List}
 use mathlib.Core.Logic.{_⊎_}
 use lib.Dec.{eqb}
-use Rattle.delimiters.specs.Count.{counted, kindAt, Quote, double, single, quoteKind}
+use Rattle.token.specs.Kind.{kindAt}
+use Rattle.delimiters.specs.Count.{counted, Quote, double, single, quoteKind}
 
 -- how many quotes of the kind stand before place p
 unfoldable pub before : Quote → List ℕ → ℕ → ℕ

@@ -10,8 +10,8 @@ use lib.Dec.{eqb, ltb}
 use lib.ListN.{length, take}
 use lib.Seq.{take-all, take-take, length-take-le}
 use borrow.Author.Tests.{eqb-true, eqb-false, ne-eqb, eq-eqb, lt-ltb, le-ltb}
-use Rattle.token.specs.Kind.{comma, doubleQuote, singleQuote}
-use Rattle.delimiters.specs.Count.{kindAt, Quote, double, single, quoteKind}
+use Rattle.token.specs.Kind.{comma, doubleQuote, singleQuote, kindAt}
+use Rattle.delimiters.specs.Count.{Quote, double, single, quoteKind}
 use Rattle.delimiters.specs.Delimit.{State, stretches, start, atComma, rejoin, rejoinTimes, rejoinTo, put, note, atQuote, step, after}
 use Rattle.delimiters.specs.Pairs.{before}
 

@@ -5,8 +5,8 @@ use mathlib.Core.Bool.{cond}
 use mathlib.Core.List.{List}
 use lib.Dec.{eqb}
 use lib.ListN.{length, set}
-use Rattle.token.specs.Kind.{comma}
-use Rattle.delimiters.specs.Count.{counted, kindAt}
+use Rattle.token.specs.Kind.{comma, kindAt}
+use Rattle.delimiters.specs.Count.{counted}
 use Rattle.delimiters.specs.Delimit.{after}
 
 -- when the first i tokens are counted

@@ -1,11 +1,8 @@
 // Delimiting: which commas of a line divide it into attributes. The rule stands in specs/Delimit.antt, what holds of every line in specs/Divide.antt.
 use token::kind;
-ghost use mathlib.Core.Path.{_≡_};
-ghost use Prim.Native.Nat.{_-_, _≤_};
-ghost use lib.ListN.{length, take};
-ghost use Rattle.delimiters.specs.Count.{counted};
-ghost use Rattle.delimiters.specs.Delimit.{dividing};
-ghost use Rattle.delimiters.specs.Stored.{stored};
+ghost use Prim.Native.Nat.{_≤_};
+ghost use lib.ListN.{length};
+ghost use Rattle.delimiters.specs.Outcome.{Outcome};
 
 // How many tokens are counted, and how many of their commas divide.
 pub struct Delimited {
@@ -17,11 +14,7 @@ pub struct Delimited {
 // room for every token, and its numbers for every place.
 pub fn find_delimiters(kinds: &[u8], commas: &mut [u16]) -> Delimited
     requires { ⌜ (length (now kinds) ≤ length (now commas)) × (length (now kinds) ≤ 65536) ⌝ }
-    ensures count { λ r. ⌜ r .counted ≡ counted (now (kinds .entry)) ⌝ }
-    ensures number { λ r. ⌜ r .commas ≡ length (dividing (now (kinds .entry))) ⌝ }
-    ensures places { λ r. ⌜ take (r .commas) (now (commas .exit)) ≡ dividing (now (kinds .entry)) ⌝ }
-    ensures slice { λ r. ⌜ now (commas .exit) ≡ stored (now (kinds .entry)) (now (commas .entry)) ⌝ }
-    ensures within { λ r. ⌜ (r .commas ≤ r .counted) × (r .counted ≤ length (now (kinds .entry)) - 1) ⌝ }
+    ensures { λ r. ⌜ Outcome (now (kinds .entry)) (now (commas .entry)) r (now (commas .exit)) ⌝ }
 {
     let mut stretches: usize = 1;
     // How many stretches the first quote of the kind noted; 0 while no quote of the kind waits for its second.

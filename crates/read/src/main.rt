@@ -38,9 +38,9 @@ fn wrong(file: &[u8], line: usize, reason: usize, from: usize, to: usize) {
 
 // Whether a line is a block attribute list.
 fn tell_block_line<'a>(kinds: &'a [u8], text: &'a [u8], pairs: &'a [u32]) {
-    match token::line::is_block_attr_list(kinds, text, pairs) {
-        token::BlockLine::Refused(n) => refusal(n),
-        token::BlockLine::Is(yes) => {
+    match attr_list::is_block_attr_list(kinds, text, pairs) {
+        attr_list::BlockLine::Refused(n) => refusal(n),
+        attr_list::BlockLine::Is(yes) => {
             if yes {
                 words(b"  a block attribute list: yes\n")
             } else {

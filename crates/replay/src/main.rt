@@ -26,10 +26,10 @@ fn write_two(a: usize, b: usize) {
     end_line();
 }
 
-fn write_block_line(answer: token::BlockLine) {
+fn write_block_line(answer: attr_list::BlockLine) {
     match answer {
-        token::BlockLine::Refused(refused) => write_two(refused, 0),
-        token::BlockLine::Is(yes) => {
+        attr_list::BlockLine::Refused(refused) => write_two(refused, 0),
+        attr_list::BlockLine::Is(yes) => {
             if yes {
                 write_two(0, 1)
             } else {
@@ -59,7 +59,7 @@ fn call<'a>(
         return;
     }
     if entry == 5 {
-        write_block_line(token::line::is_block_attr_list(&kinds[..k], &text[..t], &pairs[..p]));
+        write_block_line(attr_list::is_block_attr_list(&kinds[..k], &text[..t], &pairs[..p]));
     }
 }
 

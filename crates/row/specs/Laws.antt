@@ -7,7 +7,7 @@ use mathlib.Core.List.{List, [], _∷_, _++_, append-assoc}
 use lib.ListN.{length, set, length-append}
 use lib.Seq.{sets, length-sets}
 use Rattle.row.specs.declared.Row.{Row}
-use Rattle.row.specs.Row.{width, numbers, allNumbers, withRows}
+use Rattle.row.specs.Row.{width, numbers, allNumbers, withRows, Wrote}
 
 pub sets-append : (l : List ℕ) (i : ℕ) (xs ys : List ℕ) → sets l i (xs ++ ys) ≡ sets (sets l i xs) (i + length xs) ys
 sets-append l i [] ys = rw (add-zero i)
@@ -51,11 +51,7 @@ module _ (base : List ℕ) (from : ℕ) (all : List Row) where
   unfolding withRows allNumbers
   writes-buffer now at w = w .buffer
 
--- ---- what a call that writes rows answers: the number of the row past them
-
-pub record Wrote (before : List ℕ) (at : ℕ) (rs : List Row) (after : List ℕ) (r : ℕ) : Type 0 where
-  pub count : r ≡ at + length rs
-  pub buffer : after ≡ withRows before at rs
+-- ---- several rows are written by a call
 
 pub numbers-append : (rs ss : List Row) → allNumbers (rs ++ ss) ≡ allNumbers rs ++ allNumbers ss
 unfolding allNumbers

@@ -1,8 +1,10 @@
 -- Rows (document 01, "The line, the rows, the set").
 use Prim.Native.Nat.{ℕ, _+_, _*_, _<_}
 use mathlib.Core.Bool.{Bool}
+use mathlib.Core.Path.{_≡_}
 use mathlib.Core.List.{List, [], _∷_, _++_}
 use lib.Dec.{leb}
+use lib.ListN.{length}
 use lib.Seq.{sets}
 use Rattle.token.specs.declared.Run.{Run}
 use Rattle.token.specs.Run.{run, emptyRun}
@@ -62,9 +64,14 @@ allNumbers (r ∷ rs) = numbers r ++ allNumbers rs
 unfoldable pub withRows : List ℕ → ℕ → List Row → List ℕ
 withRows buffer at rs = sets buffer (width * at) (allNumbers rs)
 
--- refusal 7 is for a row buffer "under 5 × tokens"; this is its opposite
-abbrev pub roomFor : (tokens length : ℕ) → Bool
-roomFor tokens length = leb (width * tokens) length
+-- What a call that writes rows from row `at` on leaves, and the number that it answers: that of the row past them.
+pub record Wrote (before : List ℕ) (at : ℕ) (rs : List Row) (after : List ℕ) (r : ℕ) : Type 0 where
+  pub count : r ≡ at + length rs
+  pub buffer : after ≡ withRows before at rs
+
+-- refusal 7 is for a row buffer "under 5 × tokens"; this is its opposite, for a buffer of `room` numbers
+abbrev pub roomFor : (tokens room : ℕ) → Bool
+roomFor tokens room = leb (width * tokens) room
 
 -- the numbers of the row fit the buffer's, which have 32 bits
 abbrev pub small : ℕ → Type 0

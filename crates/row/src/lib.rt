@@ -19,11 +19,18 @@ pub struct Row {
     pub second: Run,
 }
 
-// Whether a buffer of `length` numbers has room for a row for each token.
-pub fn has_room(length: usize, tokens: usize) -> bool
-    ensures { λ r. ⌜ r ≡ roomFor tokens length ⌝ }
+// The width of a row, for callers that size a buffer.
+pub fn row_width() -> usize
+    ensures { λ r. ⌜ r ≡ width ⌝ }
 {
-    tokens <= length / WIDTH
+    WIDTH
+}
+
+// Whether a buffer of `room` numbers has room for a row for each token.
+pub fn has_room(room: usize, tokens: usize) -> bool
+    ensures { λ r. ⌜ r ≡ roomFor tokens room ⌝ }
+{
+    tokens <= room / WIDTH
 }
 
 // Writes a row as row `at` of the buffer; every other number keeps what it had.

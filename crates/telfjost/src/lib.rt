@@ -2,10 +2,9 @@
 mod lists;
 mod subs;
 
-use token::BlockLine;
-ghost use mathlib.Core.Path.{_≡_};
-ghost use Rattle.token.specs.Line.{lineOf};
-ghost use Rattle.token.specs.Block.{blockLine, refusalOf, yesOf};
+use attr_list::BlockLine;
+ghost use Rattle.token.specs.Lent.{line};
+ghost use Rattle.telfjost.specs.Outcome.{BlockOutcome};
 
 // A refusal, 0 for none, and 1 for yes.
 #[repr(C)]
@@ -28,10 +27,9 @@ pub extern "C" fn telfjost_is_block_attr_list<'a>(
     text: &'a [u8],
     pairs: &'a [u32],
 ) -> TelfjostBool
-    ensures refusal { λ r. ⌜ r .refusal ≡ refusalOf (blockLine (lineOf (now (kinds .entry)) (now (text .entry)) (now (pairs .entry)))) ⌝ }
-    ensures yes { λ r. ⌜ r .yes ≡ yesOf (blockLine (lineOf (now (kinds .entry)) (now (text .entry)) (now (pairs .entry)))) ⌝ }
+    ensures { λ r. ⌜ BlockOutcome (line (kinds .entry) (text .entry) (pairs .entry)) r ⌝ }
 {
-    let answer = token::line::is_block_attr_list(kinds, text, pairs);
+    let answer = attr_list::is_block_attr_list(kinds, text, pairs);
     match answer {
         BlockLine::Refused(number) => TelfjostBool {
             refusal: number,

@@ -1,18 +1,13 @@
 // The four readings.
 use super::TelfjostList;
 use attr_list::Answer;
-ghost use mathlib.Core.Path.{_≡_};
-ghost use lib.ListN.{length};
-ghost use Rattle.token.specs.Line.{lineOf, mostTokens};
+ghost use Rattle.token.specs.Lent.{line};
 ghost use Rattle.attr_list.specs.Entry.{Block, BlockMacro, Inline, Link};
-ghost use Rattle.attr_list.specs.Reading.{reading, answer, buffer, refusalOf, rowsOf, consumedOf};
-ghost use Rattle.attr_list.specs.ReadAsList.{WhenReadAsList};
+ghost use Rattle.telfjost.specs.Outcome.{NumbersOf, ListOutcome};
 
 // The numbers of an answer.
 fn numbers(answer: Answer) -> TelfjostList
-    ensures refusal { λ r. ⌜ r .refusal ≡ refusalOf answer ⌝ }
-    ensures rows { λ r. ⌜ r .rows ≡ rowsOf answer ⌝ }
-    ensures consumed { λ r. ⌜ r .consumed ≡ consumedOf answer ⌝ }
+    ensures { λ r. ⌜ NumbersOf answer r ⌝ }
 {
     match answer {
         Answer::Refused(number) => TelfjostList {
@@ -36,11 +31,7 @@ pub extern "C" fn telfjost_block_attr_list<'a, 'b>(
     pairs: &'a [u32],
     rows: &'b mut [u32],
 ) -> TelfjostList
-    ensures refusal { λ r. ⌜ r .refusal ≡ refusalOf (answer (reading mostTokens Block (lineOf (now (kinds .entry)) (now (text .entry)) (now (pairs .entry))) (length (now (rows .entry))))) ⌝ }
-    ensures rows { λ r. ⌜ r .rows ≡ rowsOf (answer (reading mostTokens Block (lineOf (now (kinds .entry)) (now (text .entry)) (now (pairs .entry))) (length (now (rows .entry))))) ⌝ }
-    ensures consumed { λ r. ⌜ r .consumed ≡ consumedOf (answer (reading mostTokens Block (lineOf (now (kinds .entry)) (now (text .entry)) (now (pairs .entry))) (length (now (rows .entry))))) ⌝ }
-    ensures buffer { λ _. ⌜ now (rows .exit) ≡ buffer (now (rows .entry)) (reading mostTokens Block (lineOf (now (kinds .entry)) (now (text .entry)) (now (pairs .entry))) (length (now (rows .entry)))) ⌝ }
-    ensures list { λ _. ⌜ WhenReadAsList Block (lineOf (now (kinds .entry)) (now (text .entry)) (now (pairs .entry))) (now (rows .entry)) (answer (reading mostTokens Block (lineOf (now (kinds .entry)) (now (text .entry)) (now (pairs .entry))) (length (now (rows .entry))))) (now (rows .exit)) ⌝ }
+    ensures { λ r. ⌜ ListOutcome Block (line (kinds .entry) (text .entry) (pairs .entry)) (now (rows .entry)) r (now (rows .exit)) ⌝ }
 {
     numbers(attr_list::parse_block_attr_list(kinds, text, pairs, rows))
 }
@@ -53,11 +44,7 @@ pub extern "C" fn telfjost_block_macro_attr_list<'a, 'b>(
     pairs: &'a [u32],
     rows: &'b mut [u32],
 ) -> TelfjostList
-    ensures refusal { λ r. ⌜ r .refusal ≡ refusalOf (answer (reading mostTokens BlockMacro (lineOf (now (kinds .entry)) (now (text .entry)) (now (pairs .entry))) (length (now (rows .entry))))) ⌝ }
-    ensures rows { λ r. ⌜ r .rows ≡ rowsOf (answer (reading mostTokens BlockMacro (lineOf (now (kinds .entry)) (now (text .entry)) (now (pairs .entry))) (length (now (rows .entry))))) ⌝ }
-    ensures consumed { λ r. ⌜ r .consumed ≡ consumedOf (answer (reading mostTokens BlockMacro (lineOf (now (kinds .entry)) (now (text .entry)) (now (pairs .entry))) (length (now (rows .entry))))) ⌝ }
-    ensures buffer { λ _. ⌜ now (rows .exit) ≡ buffer (now (rows .entry)) (reading mostTokens BlockMacro (lineOf (now (kinds .entry)) (now (text .entry)) (now (pairs .entry))) (length (now (rows .entry)))) ⌝ }
-    ensures list { λ _. ⌜ WhenReadAsList BlockMacro (lineOf (now (kinds .entry)) (now (text .entry)) (now (pairs .entry))) (now (rows .entry)) (answer (reading mostTokens BlockMacro (lineOf (now (kinds .entry)) (now (text .entry)) (now (pairs .entry))) (length (now (rows .entry))))) (now (rows .exit)) ⌝ }
+    ensures { λ r. ⌜ ListOutcome BlockMacro (line (kinds .entry) (text .entry) (pairs .entry)) (now (rows .entry)) r (now (rows .exit)) ⌝ }
 {
     numbers(attr_list::parse_block_macro_attr_list(kinds, text, pairs, rows))
 }
@@ -70,11 +57,7 @@ pub extern "C" fn telfjost_inline_macro_attr_list<'a, 'b>(
     pairs: &'a [u32],
     rows: &'b mut [u32],
 ) -> TelfjostList
-    ensures refusal { λ r. ⌜ r .refusal ≡ refusalOf (answer (reading mostTokens Inline (lineOf (now (kinds .entry)) (now (text .entry)) (now (pairs .entry))) (length (now (rows .entry))))) ⌝ }
-    ensures rows { λ r. ⌜ r .rows ≡ rowsOf (answer (reading mostTokens Inline (lineOf (now (kinds .entry)) (now (text .entry)) (now (pairs .entry))) (length (now (rows .entry))))) ⌝ }
-    ensures consumed { λ r. ⌜ r .consumed ≡ consumedOf (answer (reading mostTokens Inline (lineOf (now (kinds .entry)) (now (text .entry)) (now (pairs .entry))) (length (now (rows .entry))))) ⌝ }
-    ensures buffer { λ _. ⌜ now (rows .exit) ≡ buffer (now (rows .entry)) (reading mostTokens Inline (lineOf (now (kinds .entry)) (now (text .entry)) (now (pairs .entry))) (length (now (rows .entry)))) ⌝ }
-    ensures list { λ _. ⌜ WhenReadAsList Inline (lineOf (now (kinds .entry)) (now (text .entry)) (now (pairs .entry))) (now (rows .entry)) (answer (reading mostTokens Inline (lineOf (now (kinds .entry)) (now (text .entry)) (now (pairs .entry))) (length (now (rows .entry))))) (now (rows .exit)) ⌝ }
+    ensures { λ r. ⌜ ListOutcome Inline (line (kinds .entry) (text .entry) (pairs .entry)) (now (rows .entry)) r (now (rows .exit)) ⌝ }
 {
     numbers(attr_list::parse_inline_macro_attr_list(kinds, text, pairs, rows))
 }
@@ -87,11 +70,7 @@ pub extern "C" fn telfjost_link_macro_attr_list<'a, 'b>(
     pairs: &'a [u32],
     rows: &'b mut [u32],
 ) -> TelfjostList
-    ensures refusal { λ r. ⌜ r .refusal ≡ refusalOf (answer (reading mostTokens Link (lineOf (now (kinds .entry)) (now (text .entry)) (now (pairs .entry))) (length (now (rows .entry))))) ⌝ }
-    ensures rows { λ r. ⌜ r .rows ≡ rowsOf (answer (reading mostTokens Link (lineOf (now (kinds .entry)) (now (text .entry)) (now (pairs .entry))) (length (now (rows .entry))))) ⌝ }
-    ensures consumed { λ r. ⌜ r .consumed ≡ consumedOf (answer (reading mostTokens Link (lineOf (now (kinds .entry)) (now (text .entry)) (now (pairs .entry))) (length (now (rows .entry))))) ⌝ }
-    ensures buffer { λ _. ⌜ now (rows .exit) ≡ buffer (now (rows .entry)) (reading mostTokens Link (lineOf (now (kinds .entry)) (now (text .entry)) (now (pairs .entry))) (length (now (rows .entry)))) ⌝ }
-    ensures list { λ _. ⌜ WhenReadAsList Link (lineOf (now (kinds .entry)) (now (text .entry)) (now (pairs .entry))) (now (rows .entry)) (answer (reading mostTokens Link (lineOf (now (kinds .entry)) (now (text .entry)) (now (pairs .entry))) (length (now (rows .entry))))) (now (rows .exit)) ⌝ }
+    ensures { λ r. ⌜ ListOutcome Link (line (kinds .entry) (text .entry) (pairs .entry)) (now (rows .entry)) r (now (rows .exit)) ⌝ }
 {
     numbers(attr_list::parse_link_macro_attr_list(kinds, text, pairs, rows))
 }

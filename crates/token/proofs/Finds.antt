@@ -10,8 +10,8 @@ use borrow.Author.Tests.{eqb-true, eqb-false}
 use Rattle.token.specs.Kind.{attrRef}
 use Rattle.token.specs.Line.{Token, lineOf, tokenAt}
 use Rattle.token.specs.Run.{kept, onward}
-use Rattle.token.specs.Kept.{none-start, none-skip, none-more, found-here, found-none}
-use Rattle.token.specs.Parts.{FoundAt}
+use Rattle.token.specs.KeptLaws.{none-start, none-skip, none-more, found-here, found-none}
+use Rattle.token.specs.Places.{FoundAt}
 
 -- none was found below i
 pub record Sought (p : Token → Bool) (kinds : List ℕ) (from to i : ℕ) : Type 0 where

@@ -13,7 +13,7 @@ use Rattle.token.specs.Kind.{attrRef, whitespace}
 use Rattle.token.specs.Line.{Line, Token, lineOf, tokenAt}
 use Rattle.token.specs.Run.{kept, isWhitespace, without}
 use Rattle.token.specs.Names.{bytes, sameBytes, prefix}
-use Rattle.token.specs.Kept.{is-kind, not-kind, kept-none, kept-first, kept-skip}
+use Rattle.token.specs.KeptLaws.{is-kind, not-kind, kept-none, kept-first, kept-skip}
 use Rattle.token.specs.NamesLaws.{sameBytes-append, sameBytes-none}
 
 -- ---- `starts_with`

@@ -10,8 +10,8 @@ use Rattle.token.specs.declared.Run.{Run}
 use Rattle.token.specs.Kind.{doubleQuote, singleQuote}
 use Rattle.token.specs.Line.{Line, lineOf}
 use Rattle.token.specs.Run.{kept, quoted, unquote, run, runOf, inRun}
-use Rattle.token.specs.Kept.{Ends, kind-is, is-kind, not-kind, quoted-long, quoted-short, quoted-room, unquote-ends, unquote-plain}
-use Rattle.token.specs.Parts.{all, Part}
+use Rattle.token.specs.Places.{Ends, all, Part}
+use Rattle.token.specs.KeptLaws.{kind-is, is-kind, not-kind, quoted-long, quoted-short, quoted-room, unquote-ends, unquote-plain}
 
 module _ (kinds : List ℕ) (a b : ℕ) (w : Ends kinds a b) where
   pub quotes-short : b ≤ a + 1 → (text pairs : List ℕ) → false ≡ quoted (kept (lineOf kinds text pairs) a b)

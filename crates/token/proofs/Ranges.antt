@@ -12,8 +12,9 @@ use Rattle.token.specs.declared.Run.{Run}
 use Rattle.token.specs.Kind.{attrRef, whitespace}
 use Rattle.token.specs.Line.{Token, lineOf, tokenAt}
 use Rattle.token.specs.Run.{kept, trimStart, trimEnd, trim, run, emptyRun, runOf, firstPlace, between}
-use Rattle.token.specs.Kept.{Ends, is-kind, not-kind, kept-none, kept-first, kept-skip, kept-last, kept-last-skip, trimStart-space, trimStart-stop, trimEnd-space, trimEnd-stop}
-use Rattle.token.specs.Parts.{all, Narrowed, StartsAt, EndsAt, Part, starts-place, run-here, run-empty}
+use Rattle.token.specs.Places.{Ends, all, Narrowed, StartsAt, EndsAt, Part}
+use Rattle.token.specs.KeptLaws.{is-kind, not-kind, kept-none, kept-first, kept-skip, kept-last, kept-last-skip, trimStart-space, trimStart-stop, trimEnd-space, trimEnd-stop}
+use Rattle.token.specs.PlacesLaws.{starts-place, run-here, run-empty}
 
 -- ---- from the left: what is left of from..to at i has the same f
 

@@ -1,9 +1,11 @@
 pub mod Kind
 pub mod Line
+pub mod Lent
 pub mod Block
 pub mod Run
 pub mod Names
-pub mod Kept
-pub mod Parts
+pub mod Places
+pub mod KeptLaws
+pub mod PlacesLaws
 pub mod LineLaws
 pub mod NamesLaws

@@ -1,5 +1,5 @@
 -- The line as it is lent, its tokens, and the checks of it (document 01, "The line, the rows, the set", "Where a call is turned away").
-use Prim.Native.Nat.{ℕ, zero, suc, _+_, _-_, _*_}
+use Prim.Native.Nat.{ℕ, zero, suc, _+_, _-_, _*_, _≤_, _<_}
 use mathlib.Core.Bool.{Bool, true, false, not, _&&_, _||_}
 use mathlib.Core.List.{List, [], _∷_}
 use lib.Dec.{eqb, ltb}
@@ -60,6 +60,18 @@ unfoldable pub misplaced : (size end : ℕ) → List ℕ → Bool
 misplaced size end [] = false
 misplaced size end (o ∷ []) = false
 misplaced size end (o ∷ n ∷ ps) = ltb o end || (ltb size (o + n) || misplaced size (o + n) ps)
+
+-- 5 and 6 in words (laws `some-over`, `none-over`, `placed`, `placed-not`): some kind is over the largest
+pub record Over (kinds : List ℕ) : Type 0 where
+  pub place : ℕ
+  pub among : place < length kinds
+  pub over : largest < getD kinds place 0
+
+-- every token begins where the previous one ends or later, and ends within the text: `end` is where the one before them ends
+pub record Placed (size end : ℕ) (pairs : List ℕ) : Type 0 where
+  pub first : 1 < length pairs → end ≤ getD pairs 0 0
+  pub follows : (p : ℕ) → 2 * p + 3 < length pairs → getD pairs (2 * p) 0 + getD pairs (2 * p + 1) 0 ≤ getD pairs (2 * p + 2) 0
+  pub within : (p : ℕ) → 2 * p + 1 < length pairs → getD pairs (2 * p) 0 + getD pairs (2 * p + 1) 0 ≤ size
 
 -- "Checks run downward; the first that applies is returned": `check t n rest` is n where t says that the check applies
 abbrev pub check : Bool → ℕ → ℕ → ℕ

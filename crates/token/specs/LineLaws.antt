@@ -1,30 +1,17 @@
 -- Laws of the checks: what is known of a line that is not refused.
 use Prim.Native.Nat.{ℕ, zero, suc, _+_, _-_, _*_, _≤_, _<_}
 use native.Mathlib.Omega.{arith}
-use native.Mathlib.Numerals.{add-one}
 use mathlib.Core.Bool.{Bool, true, false, not, _&&_, _||_}
 use mathlib.Core.Path.{_≡_, refl, sym, subst}
 use mathlib.Core.List.{List, [], _∷_}
 use lib.Dec.{eqb, ltb}
-use lib.ListN.{length, getD, drop, drop-of-length-le}
-use lib.Seq.{drop-cons}
-use borrow.Author.Tests.{ne-eqb, eqb-true, eqb-false, lt-ltb, le-ltb, ltb-true, ltb-false}
+use lib.ListN.{length, getD}
+use borrow.Author.Tests.{ne-eqb, eqb-true, eqb-false, le-ltb, ltb-true, ltb-false}
 use Rattle.token.specs.Kind.{largest, closeBracket, openBracket}
-use Rattle.token.specs.Line.{lineOf, mostTokens, mostBytes, someOver, misplaced, check, refusal, isBlockAttrList}
+use Rattle.token.specs.Line.{lineOf, mostTokens, mostBytes, someOver, misplaced, Over, Placed, check, refusal, isBlockAttrList}
+use Rattle.token.specs.Lent.{Lent}
 
 -- ---- 5 and 6 in words
-
--- some kind is over the largest
-pub record Over (kinds : List ℕ) : Type 0 where
-  pub place : ℕ
-  pub among : place < length kinds
-  pub over : largest < getD kinds place 0
-
--- every token begins where the previous one ends or later, and ends within the text: `end` is where the one before them ends
-pub record Placed (size end : ℕ) (pairs : List ℕ) : Type 0 where
-  pub first : 1 < length pairs → end ≤ getD pairs 0 0
-  pub follows : (p : ℕ) → 2 * p + 3 < length pairs → getD pairs (2 * p) 0 + getD pairs (2 * p + 1) 0 ≤ getD pairs (2 * p + 2) 0
-  pub within : (p : ℕ) → 2 * p + 1 < length pairs → getD pairs (2 * p) 0 + getD pairs (2 * p + 1) 0 ≤ size
 
 or-false : (a b : Bool) → (a || b) ≡ false → (a ≡ false) × (b ≡ false)
 or-false true b e = (e, or-false-late b e)
@@ -100,69 +87,7 @@ placed-not size end (o ∷ n ∷ ps) w =
     next-within : (p : ℕ) → 2 * p + 1 < length ps → getD ps (2 * p) 0 + getD ps (2 * p + 1) 0 ≤ size
     next-within p h = subst (λ (x : ℕ). getD (o ∷ n ∷ ps) x 0 + getD ps (2 * p + 1) 0 ≤ size) (twice p) (subst (λ (x : ℕ). getD (o ∷ n ∷ ps) (2 * suc p) 0 + getD (o ∷ n ∷ ps) x 0 ≤ size) (twice-1 p) (w .within (suc p) (omega (arith, h))))
 
--- ---- the loops of the checks, place by place
-
--- what the loop of 6 keeps: a token has ended past the text, or one from here on is misplaced. While none begins before the previous one ends, an end
--- past the text is never made good by a later one, so the last end tells
-abbrev pub passed : (size end : ℕ) → List ℕ → Bool
-passed size end ps = ltb size end || misplaced size end ps
-
-or-true : (b : Bool) → true ≡ (b || true)
-or-true true = refl
-or-true false = refl
-
-or-none : (b : Bool) → b ≡ (b || false)
-or-none true = refl
-or-none false = refl
-
-pub passed-first : (size : ℕ) (ps : List ℕ) → passed size 0 ps ≡ misplaced size 0 ps
-passed-first size ps = rw (le-ltb size 0 (omega arith)) refl
-
-module _ (ks : List ℕ) (i : ℕ) (h : i < length ks) where
-  pub over-here : largest < getD ks i 0 → true ≡ someOver (drop i ks)
-  unfolding someOver
-  over-here g = rw (drop-cons ks i 0 h, lt-ltb largest (getD ks i 0) g)
-
-  pub over-next : getD ks i 0 ≤ largest → someOver (drop (i + 1) ks) ≡ someOver (drop i ks)
-  unfolding someOver
-  over-next g = rw (drop-cons ks i 0 h, add-one i, le-ltb largest (getD ks i 0) g)
-
-pub over-end : (ks : List ℕ) (i : ℕ) → length ks ≤ i → false ≡ someOver (drop i ks)
-unfolding someOver
-over-end ks i h = rw (drop-of-length-le ks h)
-
-module _ (ps : List ℕ) (i : ℕ) (h : 2 * i + 1 < length ps) where
-  pub pair-at : drop (2 * i) ps ≡ getD ps (2 * i) 0 ∷ getD ps (2 * i + 1) 0 ∷ drop (2 * (i + 1)) ps
-  pair-at =
-      let e : 2 * (i + 1) ≡ suc (suc (2 * i)) = omega arith in
-      rw (drop-cons ps (2 * i) 0 (omega arith), e, add-one (2 * i), drop-cons ps (suc (2 * i)) 0 (omega arith))
-
-  module _ (size end o n : ℕ) (eo : o ≡ getD ps (2 * i) 0) (en : n ≡ getD ps (2 * i + 1) 0) where
-    pub passed-before : o < end → true ≡ passed size end (drop (2 * i) ps)
-    unfolding misplaced
-    passed-before g = rw (pair-at, ← eo, lt-ltb o end g) (or-true (ltb size end))
-
-    pub passed-next : end ≤ o → passed size (o + n) (drop (2 * (i + 1)) ps) ≡ passed size end (drop (2 * i) ps)
-    unfolding misplaced
-    passed-next g = rw (pair-at, ← eo, ← en, le-ltb o end g) (absorbed (ltb size end) refl)
-      where
-        absorbed : (b : Bool) → ltb size end ≡ b → passed size (o + n) (drop (2 * (i + 1)) ps) ≡ (b || passed size (o + n) (drop (2 * (i + 1)) ps))
-        absorbed true e = let low : size < end = ltb-true size end e in rw (lt-ltb size (o + n) (omega (arith, low, g))) refl
-        absorbed false e = refl
-
-pub passed-end : (ps : List ℕ) (i size end : ℕ) → length ps ≤ 2 * i → ltb size end ≡ passed size end (drop (2 * i) ps)
-unfolding misplaced
-passed-end ps i size end h = rw (drop-of-length-le ps h) (or-none (ltb size end))
-
 -- ---- a line that is not refused
-
--- at most 4,096 tokens and 65,535 bytes; two numbers for each token, none past the text
-pub record Lent (kinds text pairs : List ℕ) : Type 0 where
-  pub some : 0 < length kinds
-  pub few : length kinds ≤ mostTokens
-  pub short : length text ≤ mostBytes
-  pub paired : length pairs ≡ 2 * length kinds
-  pub within : (p : ℕ) → p < length kinds → getD pairs (2 * p) 0 + getD pairs (2 * p + 1) 0 ≤ length text
 
 check-none : (t : Bool) (n rest : ℕ) → 0 < n → check t n rest ≡ 0 → (t ≡ false) × (rest ≡ 0)
 check-none true n rest h e = absurd (omega arith)

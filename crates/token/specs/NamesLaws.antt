@@ -8,7 +8,7 @@ use lib.Dec.{eqb, eqb·suc-zero}
 use lib.ListN.{length, getD, drop, length-take, length-drop}
 use lib.Seq.{drop-cons}
 use Rattle.token.specs.Line.{Line, lineOf, tokenAt}
-use Rattle.token.specs.LineLaws.{Lent}
+use Rattle.token.specs.Lent.{Lent}
 use Rattle.token.specs.Run.{ofOne}
 use Rattle.token.specs.Names.{sameBytes, prefix}
 

@@ -7,9 +7,9 @@ use Prim.Native.Nat.{ℕ, _<_}
 use borrow.Fn.Kinds.{In}
 use borrow.Fn.PlainCycle.{Measures, is, falls, and}
 use Rattle.attribute.proofs.Whole.{all-told, wrote-told, whole-empty, id-run, whole-positional, whole-cut, cut-some, whole-named, whole-plain, whole-options, whole-roles, whole-id, whole-shorthand, whole-stops, cut-none, cut-later, in-own, id-few}
-use Rattle.attribute.specs.Parts.{written}
+use Rattle.attribute.specs.Written.{written}
 use Rattle.attribute.specs.Attribute.{Read}
-use Rattle.attr_ir.specs.Parts.{Bounded}
+use Rattle.attr_ir.specs.Places.{Bounded}
 use Rattle.attr_ir.specs.declared.AttrIr.{AttrIr}
 use Rattle.row.specs.Row.{Fits, withRows}
 use Rattle.row.specs.declared.Row.{Row}

@@ -118,9 +118,8 @@ returns c =
     let at = c .before .tokens in
     let args = c .before .before .args in
     let big : length (args .kinds .now) ≤ length (at .commas) = omega arith in
-    let f = found (args .kinds .now) (args .commas .now) (at .commas) (at .stretches) (at .double) (at .single) (at .i) (at .inv .1) (at .inv .2) big
-    (⊎-elim (λ w. inl (w .left)) (λ w. inr (w .2 .keys1)) (c .tokens-test .came)) in
-    (f .count, (f .number, (f .places, (f .slice, f .within))))
+    found (args .kinds .now) (args .commas .now) (at .commas) (at .stretches) (at .double) (at .single) (at .i) (at .inv .1) (at .inv .2) big
+    (⊎-elim (λ w. inl (w .left)) (λ w. inr (w .2 .keys1)) (c .tokens-test .came))
 
 pub find-delimiters-spec : {M : Type 1} → statement M
 find-delimiters-spec =

@@ -2,7 +2,6 @@
 use Prim.Native.Nat.{_*_, _-_, _/_}
 use native.Mathlib.Omega.{arith}
 use lib.Dec.{leb}
-use lib.ListN.{length}
 use borrow.Author.Tests.{le-leb, leb-true}
 use Rattle.row.proofs.Places.{bool-eq}
 use Rattle.row.proofs.has_room.Statement.{statement}
@@ -11,7 +10,7 @@ use Rattle.row.proofs.has_room.Tie as tie
 returns : tie.Need-returns
 returns c =
     let t = c .args .tokens in
-    let n = c .args .length in
+    let n = c .args .room in
     bool-eq (leb t (n / 5)) (leb (5 * t) n) (λ e. le-leb (5 * t) n (omega (arith, leb-true t (n / 5) e))) (λ e. le-leb t (n / 5) (omega (arith, leb-true (5 * t) n e)))
 
 pub has-room-spec : {M : Type 1} → statement M

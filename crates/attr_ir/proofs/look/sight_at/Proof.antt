@@ -6,7 +6,7 @@ use mathlib.Core.Path.{sym, _∙_}
 use borrow.Author.Tests.{eq-eqb, ne-eqb}
 use Rattle.attr_ir.proofs.Sights.{by-symbol, space-none, space-equals, space-other, equals-first, equals-one, equals-more, sight-quote, sight-quote′, sight-other}
 use Rattle.token.specs.NamesLaws.{kind-of, kind-not, one-is}
-use Rattle.token.specs.Kept.{kept-none, kept-first}
+use Rattle.token.specs.KeptLaws.{kept-none, kept-first}
 use Rattle.token.specs.Run.{kept}
 use Rattle.token.specs.Line.{lineOf, tokenAt}
 use Rattle.attr_ir.proofs.look.sight_at.Statement.{statement}

@@ -20,7 +20,10 @@ same-length : tie.Need-same-length
 same-length c = search needs
 
 returns : tie.Need-returns
-returns c = all-told _ (c .before .before .before .before .before .before .before .before .before .before .before .before .args .at) _ _ _ _ _ (c .before .before .put-one .ensures) (none-row (c .before .before .before .before .before .before .before .before .before .before .before .before .args .block) (c .before .before .before .before .before .before .before .before .before .before .before .before .args .has) (lineOf (c .before .before .before .before .before .before .before .before .before .before .before .before .args .kinds .now) (c .before .before .before .before .before .before .before .before .before .before .before .before .args .text .now) (c .before .before .before .before .before .before .before .before .before .before .before .before .args .pairs .now)) (c .before .before .before .before .before .before .before .before .before .before .before .before .args .from .0) (c .before .before .before .before .before .before .before .before .before .before .before .before .args .to .0) (c .before .before .before .before .before .if1 .taken) _ (c .before .before .before .one-run .ensures)) (omega (arith, c .before .before .put-one .ensures .wrote .count))
+returns c =
+    let a = c .before .before .before .before .before .before .before .before .before .before .before .before .args in
+    let put-one = c .before .before .put-one in
+    all-told _ (a .at) _ _ _ _ _ (put-one .ensures) (none-row (a .block) (a .has) (lineOf (a .kinds .now) (a .text .now) (a .pairs .now)) (a .from .0) (a .to .0) (c .before .before .before .before .before .if1 .taken) _ (c .before .before .before .one-run .ensures)) (omega (arith, put-one .ensures .wrote .count))
 
 one-word-requires : tie.Need-one-word-requires
 one-word-requires c κs = search needs
@@ -29,13 +32,18 @@ one-run-requires-2 : tie.Need-one-run-requires-2
 one-run-requires-2 c κs = search needs
 
 put-one-requires-2 : tie.Need-put-one-requires-2
-put-one-requires-2 c κs = (omega (arith, c .before .before .before .before .before .before .before .before .before .before .before .pre .1 .2), subst Fits (sym (c .one-run2 .ensures)) (record { first-place = omega (arith, c .before .before .before .before .before .before .before .before .before .before .before .pre .0 .few, c .before .before .before .before .before .before .before .before .before .before .before .pre .1 .0, c .before .before .before .before .before .before .before .before .before .before .before .pre .1 .1); first-count = omega arith; second-place = omega arith; second-count = omega arith }))
+put-one-requires-2 c κs =
+    let p = c .before .before .before .before .before .before .before .before .before .before .before .pre in
+    (omega (arith, p .1 .2), subst Fits (sym (c .one-run2 .ensures)) (record { first-place = omega (arith, p .0 .few, p .1 .0, p .1 .1); first-count = omega arith; second-place = omega arith; second-count = omega arith }))
 
 same-length-2 : tie.Need-same-length-2
 same-length-2 c = search needs
 
 returns-2 : tie.Need-returns-2
-returns-2 c = all-told _ (c .before .before .before .before .before .before .before .before .before .before .before .before .before .before .args .at) _ _ _ _ _ (c .before .before .put-one2 .ensures) (word-row (c .before .before .before .before .before .before .before .before .before .before .before .before .before .before .args .block) (c .before .before .before .before .before .before .before .before .before .before .before .before .before .before .args .has) (lineOf (c .before .before .before .before .before .before .before .before .before .before .before .before .before .before .args .kinds .now) (c .before .before .before .before .before .before .before .before .before .before .before .before .before .before .args .text .now) (c .before .before .before .before .before .before .before .before .before .before .before .before .before .before .args .pairs .now)) (c .before .before .before .before .before .before .before .before .before .before .before .before .before .before .args .from .0) (c .before .before .before .before .before .before .before .before .before .before .before .before .before .before .args .to .0) (sym (c .before .before .before .before .before .before .one-word .ensures) ∙ c .before .before .before .before .before .if2 .taken) _ (c .before .before .before .one-run2 .ensures)) (omega (arith, c .before .before .put-one2 .ensures .wrote .count))
+returns-2 c =
+    let a = c .before .before .before .before .before .before .before .before .before .before .before .before .before .before .args in
+    let put-one2 = c .before .before .put-one2 in
+    all-told _ (a .at) _ _ _ _ _ (put-one2 .ensures) (word-row (a .block) (a .has) (lineOf (a .kinds .now) (a .text .now) (a .pairs .now)) (a .from .0) (a .to .0) (sym (c .before .before .before .before .before .before .one-word .ensures) ∙ c .before .before .before .before .before .if2 .taken) _ (c .before .before .before .one-run2 .ensures)) (omega (arith, put-one2 .ensures .wrote .count))
 
 parse-attr-requires : tie.Need-parse-attr-requires
 parse-attr-requires c κs = search needs

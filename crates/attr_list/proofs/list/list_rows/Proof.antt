@@ -18,7 +18,9 @@ abbrev μ-loop : tie.MeasureT-loop
 μ-loop kinds text pairs commas n end block rows₀ from₀ at₀ id₀ j₀ rows from at id j = n - j
 
 loop-holds : tie.Need-loop-holds Inv-loop μ-loop
-loop-holds c = listing-start (lineOf (c .before .before .before .before .before .args .kinds .now) (c .before .before .before .before .before .args .text .now) (c .before .before .before .before .before .args .pairs .now)) (take (c .before .before .before .before .before .args .n) (c .before .before .before .before .before .args .commas .now)) (c .before .before .before .before .before .args .end .0) (c .before .before .before .before .before .args .block) (c .before .before .before .before .before .args .rows .now) (c .before .before .before .before .before .pre .1 .1)
+loop-holds c =
+    let a = c .before .before .before .before .before .args in
+    listing-start (lineOf (a .kinds .now) (a .text .now) (a .pairs .now)) (take (a .n) (a .commas .now)) (a .end .0) (a .block) (a .rows .now) (c .before .before .before .before .before .pre .1 .1)
 
 mul-wide : tie.Need-mul-wide Inv-loop μ-loop
 mul-wide c = omega arith
@@ -30,10 +32,20 @@ wide-requires : tie.Need-wide-requires Inv-loop μ-loop
 wide-requires c κs = search needs
 
 attr-rows-requires : tie.Need-attr-rows-requires Inv-loop μ-loop
-attr-rows-requires c κs = (c .before .before .before .before .before .before .before .before .before .before .pre .0, comma-room (lineOf (c .before .before .before .before .before .before .before .before .before .before .args .kinds .now) (c .before .before .before .before .before .before .before .before .before .before .args .text .now) (c .before .before .before .before .before .before .before .before .before .before .args .pairs .now)) (c .before .before .before .before .before .before .before .before .before .before .args .commas .now) (c .before .before .before .before .before .before .before .before .before .before .args .n) (c .before .before .before .before .before .before .before .before .before .before .args .end .0) (c .before .before .before .before .before .before .before .before .before .before .args .block) (c .before .before .before .before .before .before .before .before .before .before .args .rows .now) (c .before .before .before .before .before .before .before .before .before .before .pre .1 .0 .0) (c .before .before .before .before .loop .rows) (c .before .before .before .before .loop .from) (c .before .before .before .before .loop .at) (c .before .before .before .before .loop .id) (c .before .before .before .before .loop .j) (c .before .before .before .before .loop .inv) (length (c .before .before .before .before .before .before .before .before .before .before .args .kinds .now)) (c .before .before .before .before .before .before .before .before .before .before .pre .1 .0 .1) (c .before .before .before .before .before .before .before .before .before .before .pre .1 .0 .2) (c .before .wide .result) (c .before .before .before .loop-test .taken) (c .before .wide .ensures))
+attr-rows-requires c κs =
+    let p = c .before .before .before .before .before .before .before .before .before .before .pre in
+    let a = c .before .before .before .before .before .before .before .before .before .before .args in
+    let l = c .before .before .before .before .loop in
+    let wide = c .before .wide in
+    (p .0, comma-room (lineOf (a .kinds .now) (a .text .now) (a .pairs .now)) (a .commas .now) (a .n) (a .end .0) (a .block) (a .rows .now) (p .1 .0 .0) (l .rows) (l .from) (l .at) (l .id) (l .j) (l .inv) (length (a .kinds .now)) (p .1 .0 .1) (p .1 .0 .2) (wide .result) (c .before .before .before .loop-test .taken) (wide .ensures))
 
 add-from : tie.Need-add-from Inv-loop μ-loop
-add-from c = omega (arith, comma-room (lineOf (c .before .before .before .before .before .before .before .before .before .before .before .before .before .args .kinds .now) (c .before .before .before .before .before .before .before .before .before .before .before .before .before .args .text .now) (c .before .before .before .before .before .before .before .before .before .before .before .before .before .args .pairs .now)) (c .before .before .before .before .before .before .before .before .before .before .before .before .before .args .commas .now) (c .before .before .before .before .before .before .before .before .before .before .before .before .before .args .n) (c .before .before .before .before .before .before .before .before .before .before .before .before .before .args .end .0) (c .before .before .before .before .before .before .before .before .before .before .before .before .before .args .block) (c .before .before .before .before .before .before .before .before .before .before .before .before .before .args .rows .now) (c .before .before .before .before .before .before .before .before .before .before .before .before .before .pre .1 .0 .0) (c .before .before .before .before .before .before .before .loop .rows) (c .before .before .before .before .before .before .before .loop .from) (c .before .before .before .before .before .before .before .loop .at) (c .before .before .before .before .before .before .before .loop .id) (c .before .before .before .before .before .before .before .loop .j) (c .before .before .before .before .before .before .before .loop .inv) (length (c .before .before .before .before .before .before .before .before .before .before .before .before .before .args .kinds .now)) (c .before .before .before .before .before .before .before .before .before .before .before .before .before .pre .1 .0 .1) (c .before .before .before .before .before .before .before .before .before .before .before .before .before .pre .1 .0 .2) (c .before .before .before .before .wide .result) (c .before .before .before .before .before .before .loop-test .taken) (c .before .before .before .before .wide .ensures) .1, c .before .before .before .before .before .before .before .before .before .before .before .before .before .pre .0 .few)
+add-from c =
+    let a = c .before .before .before .before .before .before .before .before .before .before .before .before .before .args in
+    let p = c .before .before .before .before .before .before .before .before .before .before .before .before .before .pre in
+    let l = c .before .before .before .before .before .before .before .loop in
+    let wide = c .before .before .before .before .wide in
+    omega (arith, comma-room (lineOf (a .kinds .now) (a .text .now) (a .pairs .now)) (a .commas .now) (a .n) (a .end .0) (a .block) (a .rows .now) (p .1 .0 .0) (l .rows) (l .from) (l .at) (l .id) (l .j) (l .inv) (length (a .kinds .now)) (p .1 .0 .1) (p .1 .0 .2) (wide .result) (c .before .before .before .before .before .before .loop-test .taken) (wide .ensures) .1, p .0 .few)
 
 add-j : tie.Need-add-j Inv-loop μ-loop
 add-j c = omega arith
@@ -42,16 +54,29 @@ loop-less : tie.Need-loop-less Inv-loop μ-loop
 loop-less c = omega arith
 
 loop-again : tie.Need-loop-again Inv-loop μ-loop
-loop-again c = next (lineOf (c .before .before .before .before .before .before .before .before .before .before .before .before .before .args .kinds .now) (c .before .before .before .before .before .before .before .before .before .before .before .before .before .args .text .now) (c .before .before .before .before .before .before .before .before .before .before .before .before .before .args .pairs .now)) (c .before .before .before .before .before .before .before .before .before .before .before .before .before .args .commas .now) (c .before .before .before .before .before .before .before .before .before .before .before .before .before .args .n) (c .before .before .before .before .before .before .before .before .before .before .before .before .before .args .end .0) (c .before .before .before .before .before .before .before .before .before .before .before .before .before .args .block) (c .before .before .before .before .before .before .before .before .before .before .before .before .before .args .rows .now) (c .before .before .before .before .before .before .before .before .before .before .before .before .before .pre .1 .0 .0) (c .before .before .before .before .before .before .before .loop .rows) (c .before .before .before .before .before .before .before .loop .from) (c .before .before .before .before .before .before .before .loop .at) (c .before .before .before .before .before .before .before .loop .id) (c .before .before .before .before .before .before .before .loop .j) (c .before .before .before .before .before .before .before .loop .inv) (c .before .before .before .before .wide .result) (c .before .before .before .before .before .before .loop-test .taken) (c .before .before .before .before .wide .ensures) (c .before .before .attr-rows .result) _ (c .before .before .attr-rows .ensures .0) (c .before .before .attr-rows .ensures .1 .0) (c .before .before .attr-rows .ensures .1 .1)
+loop-again c =
+    let a = c .before .before .before .before .before .before .before .before .before .before .before .before .before .args in
+    let l = c .before .before .before .before .before .before .before .loop in
+    let wide = c .before .before .before .before .wide in
+    let attr-rows = c .before .before .attr-rows in
+    next (lineOf (a .kinds .now) (a .text .now) (a .pairs .now)) (a .commas .now) (a .n) (a .end .0) (a .block) (a .rows .now) (c .before .before .before .before .before .before .before .before .before .before .before .before .before .pre .1 .0 .0) (l .rows) (l .from) (l .at) (l .id) (l .j) (l .inv) (wide .result) (c .before .before .before .before .before .before .loop-test .taken) (wide .ensures) (attr-rows .result) _ (attr-rows .ensures .0) (attr-rows .ensures .1 .0) (attr-rows .ensures .1 .1)
 
 attr-rows-requires-2 : tie.Need-attr-rows-requires-2 Inv-loop μ-loop
-attr-rows-requires-2 c κs = (c .before .before .before .before .before .before .before .before .pre .0, end-room (lineOf (c .before .before .before .before .before .before .before .before .args .kinds .now) (c .before .before .before .before .before .before .before .before .args .text .now) (c .before .before .before .before .before .before .before .before .args .pairs .now)) (c .before .before .before .before .before .before .before .before .args .commas .now) (c .before .before .before .before .before .before .before .before .args .n) (c .before .before .before .before .before .before .before .before .args .end .0) (c .before .before .before .before .before .before .before .before .args .block) (c .before .before .before .before .before .before .before .before .args .rows .now) (c .before .before .before .before .before .before .before .before .pre .1 .0 .0) (c .before .before .loop .rows) (c .before .before .loop .from) (c .before .before .loop .at) (c .before .before .loop .id) (c .before .before .loop .j) (c .before .before .loop .inv) (length (c .before .before .before .before .before .before .before .before .args .kinds .now)) (c .before .before .before .before .before .before .before .before .pre .1 .0 .1) (c .before .before .before .before .before .before .before .before .pre .1 .0 .2))
+attr-rows-requires-2 c κs =
+    let p = c .before .before .before .before .before .before .before .before .pre in
+    let a = c .before .before .before .before .before .before .before .before .args in
+    let l = c .before .before .loop in
+    (p .0, end-room (lineOf (a .kinds .now) (a .text .now) (a .pairs .now)) (a .commas .now) (a .n) (a .end .0) (a .block) (a .rows .now) (p .1 .0 .0) (l .rows) (l .from) (l .at) (l .id) (l .j) (l .inv) (length (a .kinds .now)) (p .1 .0 .1) (p .1 .0 .2))
 
 same-length : tie.Need-same-length Inv-loop μ-loop
 same-length c = c .before .before .attr-rows2 .kept .1 .1 .1 .1 .1 .1 .1 .0 ∙ c .before .before .before .before .before .loop .inv .writes .long
 
 returns : tie.Need-returns Inv-loop μ-loop
-returns c = let w = last (lineOf (c .before .before .before .before .before .before .before .before .before .before .before .args .kinds .now) (c .before .before .before .before .before .before .before .before .before .before .before .args .text .now) (c .before .before .before .before .before .before .before .before .before .before .before .args .pairs .now)) (c .before .before .before .before .before .before .before .before .before .before .before .args .commas .now) (c .before .before .before .before .before .before .before .before .before .before .before .args .n) (c .before .before .before .before .before .before .before .before .before .before .before .args .end .0) (c .before .before .before .before .before .before .before .before .before .before .before .args .block) (c .before .before .before .before .before .before .before .before .before .before .before .args .rows .now) (c .before .before .before .before .before .before .before .before .before .before .before .pre .1 .0 .0) (c .before .before .before .before .before .loop .rows) (c .before .before .before .before .before .loop .from) (c .before .before .before .before .before .loop .at) (c .before .before .before .before .before .loop .id) (c .before .before .before .before .before .loop .j) (c .before .before .before .before .before .loop .inv) (c .before .before .before .before .loop-test .left) (c .before .before .attr-rows2 .result) _ (c .before .before .attr-rows2 .ensures .0) (c .before .before .attr-rows2 .ensures .1 .0) in (omega (arith, w .count), w .buffer)
+returns c =
+    let a = c .before .before .before .before .before .before .before .before .before .before .before .args in
+    let l = c .before .before .before .before .before .loop in
+    let attr-rows2 = c .before .before .attr-rows2 in
+    last (lineOf (a .kinds .now) (a .text .now) (a .pairs .now)) (a .commas .now) (a .n) (a .end .0) (a .block) (a .rows .now) (c .before .before .before .before .before .before .before .before .before .before .before .pre .1 .0 .0) (l .rows) (l .from) (l .at) (l .id) (l .j) (l .inv) (c .before .before .before .before .loop-test .left) (attr-rows2 .result) _ (attr-rows2 .ensures .0) (attr-rows2 .ensures .1 .0)
 
 pub list-rows-spec : {M : Type 1} → statement M
 list-rows-spec =

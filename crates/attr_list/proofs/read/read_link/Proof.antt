@@ -2,12 +2,11 @@
 use borrow.Author.Needs.{needs}
 use Prim.Native.Nat.{_-_}
 use native.Mathlib.Omega.{arith}
-use mathlib.Core.Path.{ap, _∙_}
 use Rattle.token.specs.Line.{lineOf}
-use Rattle.attr_list.specs.Reading.{answer, buffer, textTo, readBy}
+use Rattle.attr_list.specs.Reading.{textTo, readBy}
 use Rattle.attr_list.specs.Entry.{Link}
 use Rattle.closing.specs.declared.LinkMacro.the-variants.{AsList, AsText}
-use Rattle.attr_list.proofs.Readings.{closed-gives, open-is, link-gives, text-among}
+use Rattle.attr_list.proofs.Readings.{closed-gives, open-gives, link-gives, text-among}
 use Rattle.attr_list.proofs.read.read_link.Statement.{statement}
 use Rattle.attr_list.proofs.read.read_link.Tie as tie
 use Rattle.attr_list.proofs.read.read_link.Reads as reads
@@ -19,7 +18,9 @@ no-rows-requires : tie.Need-no-rows-requires
 no-rows-requires c κs = search needs
 
 returns : tie.Need-returns
-returns c = let w = closed-gives (c .before .before .before .before .before .before .before .args .kinds .now) (readBy Link (lineOf (c .before .before .before .before .before .before .before .args .kinds .now) (c .before .before .before .before .before .before .before .args .text .now) (c .before .before .before .before .before .before .before .args .pairs .now))) (c .before .before .before .before .before .before .before .args .rows .now) (c .before .if1 .taken) (c .no-rows .result) (c .no-rows .ensures) in (w .answers, w .leaves)
+returns c =
+    let a = c .before .before .before .before .before .before .before .args in
+    closed-gives (a .kinds .now) (readBy Link (lineOf (a .kinds .now) (a .text .now) (a .pairs .now))) (a .rows .now) (c .before .if1 .taken) (c .no-rows .result) (c .no-rows .ensures)
 
 link-macro-requires : tie.Need-link-macro-requires
 link-macro-requires c κs = search needs
@@ -34,19 +35,36 @@ enum-known-holds : tie.Need-enum-known-holds
 enum-known-holds c = c .match .keys2
 
 read-text-requires : tie.Need-read-text-requires
-read-text-requires c κs = (c .before .before .before .before .before .before .before .before .before .before .before .pre .0, (c .before .before .before .before .before .before .before .before .before .before .before .pre .1, text-among (c .before .before .before .before .before .before .before .before .before .before .before .args .kinds .now) (c .before .before .before .before .before .before .before .before .before .before .before .args .pairs .now) (c .before .before .before .before .link-macro .result) (c .before .before .before .before .link-macro .ensures) (c .before .before .before .before .before .before .before .before .before .before .before .pre .0 .some) (c .before .before .holds .given .0 .0) (c .before .before .holds .given .1)))
+read-text-requires c κs =
+    let p = c .before .before .before .before .before .before .before .before .before .before .before .pre in
+    let a = c .before .before .before .before .before .before .before .before .before .before .before .args in
+    let link-macro = c .before .before .before .before .link-macro in
+    let holds = c .before .before .holds in
+    (p .0, (p .1, text-among (a .kinds .now) (a .pairs .now) (link-macro .result) (link-macro .ensures) (p .0 .some) (holds .given .0 .0) (holds .given .1)))
 
 same-length : tie.Need-same-length
 same-length c = search needs
 
 returns-2 : tie.Need-returns-2
-returns-2 c = let w = link-gives (lineOf (c .before .before .before .before .before .before .before .before .before .before .before .before .before .args .kinds .now) (c .before .before .before .before .before .before .before .before .before .before .before .before .before .args .text .now) (c .before .before .before .before .before .before .before .before .before .before .before .before .before .args .pairs .now)) (c .before .before .before .before .before .before .link-macro .result) AsList (c .before .before .before .before .before .before .before .before .before .before .before .before .before .args .rows .now) (c .before .before .before .before .before .before .link-macro .ensures) (c .before .before .before .before .enum-told .given .1) (c .before .before .read-list .result) _ (c .before .before .read-list .ensures .0) (c .before .before .read-list .ensures .1) in (w .answers, w .leaves)
+returns-2 c =
+    let a = c .before .before .before .before .before .before .before .before .before .before .before .before .before .args in
+    let link-macro = c .before .before .before .before .before .before .link-macro in
+    let read-list = c .before .before .read-list in
+    link-gives (lineOf (a .kinds .now) (a .text .now) (a .pairs .now)) (link-macro .result) AsList (a .rows .now) (link-macro .ensures) (c .before .before .before .before .enum-told .given .1) (read-list .result) _ (read-list .ensures)
 
 same-length-2 : tie.Need-same-length-2
 same-length-2 c = search needs
 
 returns-3 : tie.Need-returns-3
-returns-3 c = let same = open-is (c .before .before .before .before .before .before .before .before .before .before .before .before .before .before .args .kinds .now) (textTo (lineOf (c .before .before .before .before .before .before .before .before .before .before .before .before .before .before .args .kinds .now) (c .before .before .before .before .before .before .before .before .before .before .before .before .before .before .args .text .now) (c .before .before .before .before .before .before .before .before .before .before .before .before .before .before .args .pairs .now)) (c .before .before .before .before .before .holds .given .0 .0 .0)) (c .before .before .before .before .before .before .before .before .if1 .left) in let w = link-gives (lineOf (c .before .before .before .before .before .before .before .before .before .before .before .before .before .before .args .kinds .now) (c .before .before .before .before .before .before .before .before .before .before .before .before .before .before .args .text .now) (c .before .before .before .before .before .before .before .before .before .before .before .before .before .before .args .pairs .now)) (c .before .before .before .before .before .before .before .link-macro .result) (AsText (c .before .before .before .before .before .holds .given .0 .0)) (c .before .before .before .before .before .before .before .before .before .before .before .before .before .before .args .rows .now) (c .before .before .before .before .before .before .before .link-macro .ensures) (c .before .before .before .before .before .holds .given .1) (c .before .before .read-text .result) _ (c .before .before .read-text .ensures .0 ∙ ap answer same) (c .before .before .read-text .ensures .1 ∙ ap (buffer (c .before .before .before .before .before .before .before .before .before .before .before .before .before .before .args .rows .now)) same) in (w .answers, w .leaves)
+returns-3 c =
+    let a = c .before .before .before .before .before .before .before .before .before .before .before .before .before .before .args in
+    let link-macro = c .before .before .before .before .before .before .before .link-macro in
+    let holds = c .before .before .before .before .before .holds in
+    let read-text = c .before .before .read-text in
+    let h = c .before .before .before .before .before .before .before .before .if1 .left in
+    let line = lineOf (a .kinds .now) (a .text .now) (a .pairs .now) in
+    link-gives line (link-macro .result) (AsText (holds .given .0 .0)) (a .rows .now) (link-macro .ensures) (holds .given .1) (read-text .result) _
+    (open-gives (a .kinds .now) (textTo line (holds .given .0 .0 .0)) (a .rows .now) h (read-text .result) _ (read-text .ensures))
 
 pub read-link-spec : {M : Type 1} → statement M
 read-link-spec =

@@ -3,7 +3,7 @@ use borrow.Author.Needs.{needs}
 use Prim.Native.Nat.{_-_}
 use native.Mathlib.Omega.{arith}
 use Rattle.token.specs.Line.{lineOf}
-use Rattle.attr_list.specs.Reading.{listTo, closing}
+use Rattle.attr_list.specs.Reading.{listOf}
 use Rattle.attr_list.proofs.Readings.{closed-gives, open-gives}
 use Rattle.attr_list.proofs.read.read_list.Statement.{statement}
 use Rattle.attr_list.proofs.read.read_list.Tie as tie
@@ -16,7 +16,9 @@ no-rows-requires : tie.Need-no-rows-requires
 no-rows-requires c κs = search needs
 
 returns : tie.Need-returns
-returns c = let w = closed-gives (c .before .before .before .before .before .before .before .args .kinds .now) (listTo (lineOf (c .before .before .before .before .before .before .before .args .kinds .now) (c .before .before .before .before .before .before .before .args .text .now) (c .before .before .before .before .before .before .before .args .pairs .now)) (c .before .before .before .before .before .before .before .args .block) (closing (c .before .before .before .before .before .before .before .args .full) (c .before .before .before .before .before .before .before .args .kinds .now))) (c .before .before .before .before .before .before .before .args .rows .now) (c .before .if1 .taken) (c .no-rows .result) (c .no-rows .ensures) in (w .answers, w .leaves)
+returns c =
+    let a = c .before .before .before .before .before .before .before .args in
+    closed-gives (a .kinds .now) (listOf (lineOf (a .kinds .now) (a .text .now) (a .pairs .now)) (a .full) (a .block)) (a .rows .now) (c .before .if1 .taken) (c .no-rows .result) (c .no-rows .ensures)
 
 slice-aggregate-read-list-in : tie.Need-slice-aggregate-read-list-in
 slice-aggregate-read-list-in c = search needs
@@ -28,7 +30,10 @@ same-length : tie.Need-same-length
 same-length c = search needs
 
 returns-2 : tie.Need-returns-2
-returns-2 c = let w = open-gives (c .before .before .before .before .before .before .before .before .before .before .before .before .before .args .kinds .now) (listTo (lineOf (c .before .before .before .before .before .before .before .before .before .before .before .before .before .args .kinds .now) (c .before .before .before .before .before .before .before .before .before .before .before .before .before .args .text .now) (c .before .before .before .before .before .before .before .before .before .before .before .before .before .args .pairs .now)) (c .before .before .before .before .before .before .before .before .before .before .before .before .before .args .block) (closing (c .before .before .before .before .before .before .before .before .before .before .before .before .before .args .full) (c .before .before .before .before .before .before .before .before .before .before .before .before .before .args .kinds .now))) (c .before .before .before .before .before .before .before .before .before .before .before .before .before .args .rows .now) (c .before .before .before .before .before .before .before .if1 .left) (c .before .before .before .read-list-in .result) _ (c .before .before .before .read-list-in .ensures .0) (c .before .before .before .read-list-in .ensures .1) in (w .answers, w .leaves)
+returns-2 c =
+    let a = c .before .before .before .before .before .before .before .before .before .before .before .before .before .args in
+    let read-list-in = c .before .before .before .read-list-in in
+    open-gives (a .kinds .now) (listOf (lineOf (a .kinds .now) (a .text .now) (a .pairs .now)) (a .full) (a .block)) (a .rows .now) (c .before .before .before .before .before .before .before .if1 .left) (read-list-in .result) _ (read-list-in .ensures)
 
 slice-aggregate-read-list-in-2 : tie.Need-slice-aggregate-read-list-in-2
 slice-aggregate-read-list-in-2 c = search needs
@@ -40,7 +45,10 @@ same-length-2 : tie.Need-same-length-2
 same-length-2 c = search needs
 
 returns-3 : tie.Need-returns-3
-returns-3 c = let w = open-gives (c .before .before .before .before .before .before .before .before .before .before .before .before .before .args .kinds .now) (listTo (lineOf (c .before .before .before .before .before .before .before .before .before .before .before .before .before .args .kinds .now) (c .before .before .before .before .before .before .before .before .before .before .before .before .before .args .text .now) (c .before .before .before .before .before .before .before .before .before .before .before .before .before .args .pairs .now)) (c .before .before .before .before .before .before .before .before .before .before .before .before .before .args .block) (closing (c .before .before .before .before .before .before .before .before .before .before .before .before .before .args .full) (c .before .before .before .before .before .before .before .before .before .before .before .before .before .args .kinds .now))) (c .before .before .before .before .before .before .before .before .before .before .before .before .before .args .rows .now) (c .before .before .before .before .before .before .before .if1 .left) (c .before .before .before .read-list-in2 .result) _ (c .before .before .before .read-list-in2 .ensures .0) (c .before .before .before .read-list-in2 .ensures .1) in (w .answers, w .leaves)
+returns-3 c =
+    let a = c .before .before .before .before .before .before .before .before .before .before .before .before .before .args in
+    let read-list-in2 = c .before .before .before .read-list-in2 in
+    open-gives (a .kinds .now) (listOf (lineOf (a .kinds .now) (a .text .now) (a .pairs .now)) (a .full) (a .block)) (a .rows .now) (c .before .before .before .before .before .before .before .if1 .left) (read-list-in2 .result) _ (read-list-in2 .ensures)
 
 pub read-list-spec : {M : Type 1} → statement M
 read-list-spec =

@@ -12,7 +12,9 @@ find-delimiters-requires : tie.Need-find-delimiters-requires
 find-delimiters-requires c κs = search needs
 
 closing-bracket-requires : tie.Need-closing-bracket-requires
-closing-bracket-requires c κs = search needs
+closing-bracket-requires c κs =
+    let d = c .before .before .before .find-delimiters .ensures in
+    (omega (arith, d .few, d .within), omega arith, d .places)
 
 enum-known-closing : tie.Need-enum-known-closing
 enum-known-closing c = c .match .keys1
@@ -24,13 +26,30 @@ same-length : tie.Need-same-length
 same-length c = search needs
 
 returns : tie.Need-returns
-returns c = let w = list-nowhere (c .before .before .before .before .before .before .before .before .before .before .before .before .before .args .kinds .now) (c .before .before .before .before .before .before .before .before .before .before .before .before .before .args .text .now) (c .before .before .before .before .before .before .before .before .before .before .before .before .before .args .pairs .now) (c .before .before .before .before .before .before .before .before .before .before .before .before .before .args .full) (c .before .before .closing-bracket .result) (c .before .before .closing-bracket .ensures) (c .before .before .before .before .before .before .before .before .before .before .before .before .before .args .block) (c .before .before .before .before .before .before .before .before .before .before .before .before .before .args .rows .now) (c .enum-told .given .1) in (w .answers, w .leaves)
+returns c =
+    let a = c .before .before .before .before .before .before .before .before .before .before .before .before .before .args in
+    let closing-bracket = c .before .before .closing-bracket in
+    list-nowhere (a .kinds .now) (a .text .now) (a .pairs .now) (a .full) (closing-bracket .result) (closing-bracket .ensures) (a .block) (a .rows .now) (c .enum-told .given .1)
 
 list-rows-requires : tie.Need-list-rows-requires
-list-rows-requires c κs = let w = end-is (c .before .before .before .before .before .before .before .before .before .before .before .before .before .before .before .before .args .kinds .now) (c .before .before .before .before .before .before .before .before .before .before .before .before .before .before .before .before .args .text .now) (c .before .before .before .before .before .before .before .before .before .before .before .before .before .before .before .before .args .pairs .now) (c .before .before .before .before .before .before .before .before .before .before .before .before .before .before .before .before .args .full) (c .before .before .before .before .before .closing-bracket .result) (c .before .before .before .before .before .closing-bracket .ensures) (c .before .before .before .before .before .before .before .before .before .before .before .before .before .before .before .before .pre .0 .some) (c .before .before .before .closing .given .0 .0) (c .before .before .before .closing .given .1) in (c .before .before .before .before .before .before .before .before .before .before .before .before .before .before .before .before .pre .0, ((omega arith, omega (arith, w .among), omega (arith, w .among, c .before .before .before .before .before .before .before .before .before .before .before .before .before .before .before .before .pre .1 .0)), list-commas (c .before .before .before .before .before .before .before .before .before .before .before .before .before .before .before .before .args .kinds .now) (c .before .before .before .before .before .before .before .before .before .before .before .before .before .before .before .before .args .text .now) (c .before .before .before .before .before .before .before .before .before .before .before .before .before .before .before .before .args .pairs .now) (c .before .before .before .before .before .before .before .before .before .before .before .before .before .before .before .before .args .full) (c .before .before .before .before .before .closing-bracket .result) (c .before .before .before .before .before .closing-bracket .ensures) (c .before .before .before .before .before .before .before .before .before .before .before .before .before .before .before .before .pre .0 .some) (c .before .before .before .closing .given .0 .0) (c .before .before .before .closing .given .1) (c .before .before .before .before .before .before .before .before .before .find-delimiters .last .1 .0) (c .before .before .before .before .before .before .before .before .before .find-delimiters .result .commas) (c .before .before .before .before .before .before .before .before .before .find-delimiters .ensures .1 .1 .0)))
+list-rows-requires c κs =
+    let a = c .before .before .before .before .before .before .before .before .before .before .before .before .before .before .before .before .args in
+    let p = c .before .before .before .before .before .before .before .before .before .before .before .before .before .before .before .before .pre in
+    let find-delimiters = c .before .before .before .before .before .before .before .before .before .find-delimiters in
+    let closing-bracket = c .before .before .before .before .before .closing-bracket in
+    let closing = c .before .before .before .closing in
+    let w = end-is (a .kinds .now) (a .text .now) (a .pairs .now) (a .full) (closing-bracket .result) (closing-bracket .ensures) (p .0 .some) (closing .given .0 .0) (closing .given .1) in
+    let d = find-delimiters .ensures in
+    (p .0, ((omega (arith, d .few, d .within, p .1 .1), omega (arith, w .among), omega (arith, w .among, p .1 .0)), list-commas (a .kinds .now) (a .text .now) (a .pairs .now) (a .full) (closing-bracket .result) (closing-bracket .ensures) (p .0 .some) (closing .given .0 .0) (closing .given .1) (find-delimiters .last .1 .0) (find-delimiters .result .commas) (find-delimiters .ensures .places)))
 
 add-t25 : tie.Need-add-t25
-add-t25 c = let w = end-is (c .before .before .before .before .before .before .before .before .before .before .before .before .before .before .before .before .before .before .before .before .args .kinds .now) (c .before .before .before .before .before .before .before .before .before .before .before .before .before .before .before .before .before .before .before .before .args .text .now) (c .before .before .before .before .before .before .before .before .before .before .before .before .before .before .before .before .before .before .before .before .args .pairs .now) (c .before .before .before .before .before .before .before .before .before .before .before .before .before .before .before .before .before .before .before .before .args .full) (c .before .before .before .before .before .before .before .before .before .closing-bracket .result) (c .before .before .before .before .before .before .before .before .before .closing-bracket .ensures) (c .before .before .before .before .before .before .before .before .before .before .before .before .before .before .before .before .before .before .before .before .pre .0 .some) (c .before .before .before .before .before .before .before .closing .given .0 .0) (c .before .before .before .before .before .before .before .closing .given .1) in omega (arith, w .among, c .before .before .before .before .before .before .before .before .before .before .before .before .before .before .before .before .before .before .before .before .pre .0 .few)
+add-t25 c =
+    let a = c .before .before .before .before .before .before .before .before .before .before .before .before .before .before .before .before .before .before .before .before .args in
+    let p = c .before .before .before .before .before .before .before .before .before .before .before .before .before .before .before .before .before .before .before .before .pre in
+    let closing-bracket = c .before .before .before .before .before .before .before .before .before .closing-bracket in
+    let closing = c .before .before .before .before .before .before .before .closing in
+    let w = end-is (a .kinds .now) (a .text .now) (a .pairs .now) (a .full) (closing-bracket .result) (closing-bracket .ensures) (p .0 .some) (closing .given .0 .0) (closing .given .1) in
+    omega (arith, w .among, p .0 .few)
 
 same-length-2 : tie.Need-same-length-2
 same-length-2 c = search needs
@@ -39,7 +58,14 @@ same-length-3 : tie.Need-same-length-3
 same-length-3 c = search needs
 
 returns-2 : tie.Need-returns-2
-returns-2 c = let w = list-gives (c .before .before .before .before .before .before .before .before .before .before .before .before .before .before .before .before .before .before .before .before .args .kinds .now) (c .before .before .before .before .before .before .before .before .before .before .before .before .before .before .before .before .before .before .before .before .args .text .now) (c .before .before .before .before .before .before .before .before .before .before .before .before .before .before .before .before .before .before .before .before .args .pairs .now) (c .before .before .before .before .before .before .before .before .before .before .before .before .before .before .before .before .before .before .before .before .args .full) (c .before .before .before .before .before .before .before .before .before .closing-bracket .result) (c .before .before .before .before .before .before .before .before .before .closing-bracket .ensures) (c .before .before .before .before .before .before .before .before .before .before .before .before .before .before .before .before .before .before .before .before .pre .0 .some) (c .before .before .before .before .before .before .before .closing .given .0 .0) (c .before .before .before .before .before .before .before .closing .given .1) (c .before .before .before .before .before .before .before .before .before .before .before .before .before .find-delimiters .last .1 .0) (c .before .before .before .before .before .before .before .before .before .before .before .before .before .find-delimiters .result .commas) (c .before .before .before .before .before .before .before .before .before .before .before .before .before .find-delimiters .ensures .1 .1 .0) (c .before .before .before .before .before .before .before .before .before .before .before .before .before .before .before .before .before .before .before .before .pre .1 .2) (c .before .before .before .before .before .before .before .before .before .before .before .before .before .before .before .before .before .before .before .before .args .block) (c .before .before .before .before .before .before .before .before .before .before .before .before .before .before .before .before .before .before .before .before .args .rows .now) _ (c .before .before .before .list-rows .result) (c .before .before .before .list-rows .ensures .0) (c .before .before .before .list-rows .ensures .1) in (w .answers, w .leaves)
+returns-2 c =
+    let a = c .before .before .before .before .before .before .before .before .before .before .before .before .before .before .before .before .before .before .before .before .args in
+    let p = c .before .before .before .before .before .before .before .before .before .before .before .before .before .before .before .before .before .before .before .before .pre in
+    let find-delimiters = c .before .before .before .before .before .before .before .before .before .before .before .before .before .find-delimiters in
+    let closing-bracket = c .before .before .before .before .before .before .before .before .before .closing-bracket in
+    let closing = c .before .before .before .before .before .before .before .closing in
+    let list-rows = c .before .before .before .list-rows in
+    list-gives (a .kinds .now) (a .text .now) (a .pairs .now) (a .full) (closing-bracket .result) (closing-bracket .ensures) (p .0 .some) (closing .given .0 .0) (closing .given .1) (find-delimiters .last .1 .0) (find-delimiters .result .commas) (find-delimiters .ensures .places) (p .1 .2) (a .block) (a .rows .now) _ (list-rows .result) (list-rows .ensures)
 
 pub read-list-in-spec : {M : Type 1} → statement M
 read-list-in-spec =

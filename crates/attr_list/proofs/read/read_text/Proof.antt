@@ -10,7 +10,9 @@ shared-slice-read-if1 : tie.Need-shared-slice-read-if1
 shared-slice-read-if1 c = search needs
 
 returns : tie.Need-returns
-returns c = let w = text-not (c .before .before .before .before .before .before .args .kinds .now) (c .before .before .before .before .before .before .args .text .now) (c .before .before .before .before .before .before .args .pairs .now) (c .before .before .before .before .before .before .args .end .0) (c .before .before .before .before .before .before .args .rows .now) (c .if1 .taken) in (w .answers, w .leaves)
+returns c =
+    let a = c .before .before .before .before .before .before .args in
+    text-not (a .kinds .now) (a .text .now) (a .pairs .now) (a .end .0) (a .rows .now) (c .if1 .taken)
 
 unquote-requires : tie.Need-unquote-requires
 unquote-requires c κs = search needs
@@ -19,7 +21,10 @@ one-run-requires : tie.Need-one-run-requires
 one-run-requires c κs = search needs
 
 put-row-requires : tie.Need-put-row-requires
-put-row-requires c κs = (omega arith, text-fits _ (c .before .before .before .before .before .before .before .before .before .args .kinds .now) (c .before .before .before .before .before .before .before .before .before .args .text .now) (c .before .before .before .before .before .before .before .before .before .args .pairs .now) 0 (c .before .before .before .before .before .before .before .before .before .args .end .0) (c .before .unquote .result) (c .one-run .result) (c .before .before .before .before .before .before .before .before .before .pre .0) (omega arith) (c .before .unquote .ensures .1) (c .one-run .ensures))
+put-row-requires c κs =
+    let a = c .before .before .before .before .before .before .before .before .before .args in
+    let unquote = c .before .unquote in
+    (omega arith, text-fits _ (a .kinds .now) (a .text .now) (a .pairs .now) 0 (a .end .0) (unquote .result) (c .one-run .result) (c .before .before .before .before .before .before .before .before .before .pre .0) (omega arith) (unquote .ensures .1) (c .one-run .ensures))
 
 add-t16 : tie.Need-add-t16
 add-t16 c = search needs
@@ -28,7 +33,11 @@ same-length : tie.Need-same-length
 same-length c = search needs
 
 returns-2 : tie.Need-returns-2
-returns-2 c = let w = text-gives (c .before .before .before .before .before .before .before .before .before .before .before .before .args .kinds .now) (c .before .before .before .before .before .before .before .before .before .before .before .before .args .text .now) (c .before .before .before .before .before .before .before .before .before .before .before .before .args .pairs .now) (c .before .before .before .before .before .before .before .before .before .before .before .before .args .end .0) (c .before .before .before .before .before .before .before .before .before .before .before .before .args .rows .now) (c .before .before .before .before .before .before .if1 .left) (c .before .before .before .before .unquote .result) (c .before .before .before .one-run .result) _ (c .before .before .before .one-run .ensures) (c .before .before .before .before .unquote .ensures .0 (c .before .before .before .before .before .before .before .before .before .before .before .before .args .text .now) (c .before .before .before .before .before .before .before .before .before .before .before .before .args .pairs .now)) (c .before .before .put-row .ensures) in (w .answers, w .leaves)
+returns-2 c =
+    let a = c .before .before .before .before .before .before .before .before .before .before .before .before .args in
+    let unquote = c .before .before .before .before .unquote in
+    let one-run = c .before .before .before .one-run in
+    text-gives (a .kinds .now) (a .text .now) (a .pairs .now) (a .end .0) (a .rows .now) (c .before .before .before .before .before .before .if1 .left) (unquote .result) (one-run .result) _ (one-run .ensures) (unquote .ensures .0 (a .text .now) (a .pairs .now)) (c .before .before .put-row .ensures)
 
 pub read-text-spec : {M : Type 1} → statement M
 read-text-spec =

@@ -10,19 +10,25 @@ on-requires : tie.Need-on-requires
 on-requires c κs = search needs
 
 returns : tie.Need-returns
-returns c = c .on .ensures ∙ turn-nested (c .before .before .before .before .args .seen) (c .before .before .before .before .args .k) (c .before .before .before .before .args .one) (c .before .before .match .keys1) (c .before .if1 .taken)
+returns c =
+    let a = c .before .before .before .before .args in
+    c .on .ensures ∙ turn-nested (a .seen) (a .k) (a .one) (c .before .before .match .keys1) (c .before .if1 .taken)
 
 on-requires-2 : tie.Need-on-requires-2
 on-requires-2 c κs = search needs
 
 returns-2 : tie.Need-returns-2
-returns-2 c = c .on2 .ensures ∙ turn-escaped-close (c .before .before .before .before .before .args .seen) (c .before .before .before .before .before .args .k) (c .before .before .before .before .before .args .one) (c .before .before .before .match .keys1) (c .before .before .if1 .left) (c .before .if2 .taken)
+returns-2 c =
+    let a = c .before .before .before .before .before .args in
+    c .on2 .ensures ∙ turn-escaped-close (a .seen) (a .k) (a .one) (c .before .before .before .match .keys1) (c .before .before .if1 .left) (c .before .if2 .taken)
 
 on-requires-3 : tie.Need-on-requires-3
 on-requires-3 c κs = search needs
 
 returns-3 : tie.Need-returns-3
-returns-3 c = c .on3 .ensures ∙ turn-escaped-open (c .before .before .before .before .args .seen) (c .before .before .before .before .args .k) (c .before .before .before .before .args .one) (c .before .before .match .keys2) (c .before .if3 .taken)
+returns-3 c =
+    let a = c .before .before .before .before .args in
+    c .on3 .ensures ∙ turn-escaped-open (a .seen) (a .k) (a .one) (c .before .before .match .keys2) (c .before .if3 .taken)
 
 on-requires-4 : tie.Need-on-requires-4
 on-requires-4 c κs = search needs
@@ -31,7 +37,9 @@ on-requires-5 : tie.Need-on-requires-5
 on-requires-5 c κs = search needs
 
 returns-4 : tie.Need-returns-4
-returns-4 c = c .on5 .ensures ∙ turn-escaped-quote (c .before .before .before .before .args .seen) (c .before .before .before .before .args .k) (c .before .before .before .before .args .one) (c .before .before .match .keys3) (c .before .if4 .taken)
+returns-4 c =
+    let a = c .before .before .before .before .args in
+    c .on5 .ensures ∙ turn-escaped-quote (a .seen) (a .k) (a .one) (c .before .before .match .keys3) (c .before .if4 .taken)
 
 on-requires-6 : tie.Need-on-requires-6
 on-requires-6 c κs = search needs
@@ -40,10 +48,14 @@ on-requires-7 : tie.Need-on-requires-7
 on-requires-7 c κs = search needs
 
 returns-5 : tie.Need-returns-5
-returns-5 c = c .on7 .ensures ∙ turn-quoted (c .before .before .before .before .args .seen) (c .before .before .before .before .args .k) (c .before .before .before .before .args .one) (c .before .before .match .keys4) (c .before .if5 .taken)
+returns-5 c =
+    let a = c .before .before .before .before .args in
+    c .on7 .ensures ∙ turn-quoted (a .seen) (a .k) (a .one) (c .before .before .match .keys4) (c .before .if5 .taken)
 
 returns-6 : tie.Need-returns-6
-returns-6 c = turn-equals (c .before .before .before .before .args .seen) (c .before .before .before .before .args .k) (c .before .before .before .before .args .one) (c .before .before .match .keys4) (c .before .if5 .left) (c .if6 .taken)
+returns-6 c =
+    let a = c .before .before .before .before .args in
+    turn-equals (a .seen) (a .k) (a .one) (c .before .before .match .keys4) (c .before .if5 .left) (c .if6 .taken)
 
 on-requires-8 : tie.Need-on-requires-8
 on-requires-8 c κs = search needs
@@ -52,19 +64,30 @@ on-requires-9 : tie.Need-on-requires-9
 on-requires-9 c κs = search needs
 
 returns-7 : tie.Need-returns-7
-returns-7 c = turn-closed (c .before .before .before .before .args .seen) (c .before .before .before .before .args .k) (c .before .before .before .before .args .one) (c .before .before .match .keys1) (c .before .if1 .left) (c .if2 .left)
+returns-7 c =
+    let a = c .before .before .before .before .args in
+    turn-closed (a .seen) (a .k) (a .one) (c .before .before .match .keys1) (c .before .if1 .left) (c .if2 .left)
 
 returns-8 : tie.Need-returns-8
-returns-8 c = c .on4 .ensures ∙ turn-open (c .before .before .before .before .args .seen) (c .before .before .before .before .args .k) (c .before .before .before .before .args .one) (c .before .before .match .keys2) (c .before .if3 .left)
+returns-8 c =
+    let a = c .before .before .before .before .args in
+    c .on4 .ensures ∙ turn-open (a .seen) (a .k) (a .one) (c .before .before .match .keys2) (c .before .if3 .left)
 
 returns-9 : tie.Need-returns-9
-returns-9 c = c .on6 .ensures ∙ turn-quote (c .before .before .before .before .args .seen) (c .before .before .before .before .args .k) (c .before .before .before .before .args .one) (c .before .before .match .keys3) (c .before .if4 .left)
+returns-9 c =
+    let a = c .before .before .before .before .args in
+    c .on6 .ensures ∙ turn-quote (a .seen) (a .k) (a .one) (c .before .before .match .keys3) (c .before .if4 .left)
 
 returns-10 : tie.Need-returns-10
-returns-10 c = c .on8 .ensures ∙ turn-long (c .before .before .before .before .before .args .seen) (c .before .before .before .before .before .args .k) (c .before .before .before .before .before .args .one) (c .before .before .before .match .keys4) (c .before .if6 .left)
+returns-10 c =
+    let a = c .before .before .before .before .before .args in
+    c .on8 .ensures ∙ turn-long (a .seen) (a .k) (a .one) (c .before .before .before .match .keys4) (c .before .if6 .left)
 
 returns-11 : tie.Need-returns-11
-returns-11 c = c .on9 .ensures ∙ turn-other (c .before .before .before .args .seen) (c .before .before .before .args .k) (c .before .before .before .args .one) (c .before .match .rest .0 .0 .0 .1) (c .before .match .rest .0 .0 .1) (c .before .match .rest .0 .1) (c .before .match .rest .1)
+returns-11 c =
+    let a = c .before .before .before .args in
+    let match = c .before .match in
+    c .on9 .ensures ∙ turn-other (a .seen) (a .k) (a .one) (match .rest .0 .0 .0 .1) (match .rest .0 .0 .1) (match .rest .0 .1) (match .rest .1)
 
 pub turn-at-spec : {M : Type 1} → statement M
 turn-at-spec =

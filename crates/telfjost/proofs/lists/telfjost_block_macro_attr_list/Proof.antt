@@ -1,11 +1,9 @@
 -- The exported function gives the numbers of what `parse_block_macro_attr_list` answers, and its buffer. Assumes nothing.
 use borrow.Author.Needs.{needs}
 use Prim.Native.Nat.{_-_}
-use mathlib.Core.Path.{ap, _∙_}
-use Rattle.telfjost.proofs.Told.{same-answer}
-use Rattle.attr_list.specs.Reading.{refusalOf, rowsOf, consumedOf}
-use Rattle.attr_list.specs.Entry.{BlockMacro}
 use Rattle.token.specs.Line.{lineOf}
+use Rattle.attr_list.specs.Entry.{BlockMacro}
+use Rattle.telfjost.proofs.Outcomes.{list-outcome}
 use Rattle.telfjost.proofs.lists.telfjost_block_macro_attr_list.Statement.{statement}
 use Rattle.telfjost.proofs.lists.telfjost_block_macro_attr_list.Tie as tie
 
@@ -19,7 +17,11 @@ same-length : tie.Need-same-length
 same-length c = search needs
 
 returns : tie.Need-returns
-returns c = (c .numbers .ensures .0 ∙ ap refusalOf (c .before .before .before .parse-block-macro-attr-list .ensures .0), (c .numbers .ensures .1 .0 ∙ ap rowsOf (c .before .before .before .parse-block-macro-attr-list .ensures .0), (c .numbers .ensures .1 .1 ∙ ap consumedOf (c .before .before .before .parse-block-macro-attr-list .ensures .0), (c .before .before .before .parse-block-macro-attr-list .ensures .1 .0, same-answer BlockMacro (lineOf (c .before .before .before .before .before .before .before .before .before .args .kinds .now) (c .before .before .before .before .before .before .before .before .before .args .text .now) (c .before .before .before .before .before .before .before .before .before .args .pairs .now)) (c .before .before .before .before .before .before .before .before .before .args .rows .now) _ _ _ (c .before .before .before .parse-block-macro-attr-list .ensures .0) (c .before .before .before .parse-block-macro-attr-list .ensures .1 .1)))))
+returns c =
+    let a = c .before .before .before .before .before .before .before .before .before .args in
+    let r = c .before .before .before .parse-block-macro-attr-list in
+    let n = c .numbers in
+    list-outcome BlockMacro (lineOf (a .kinds .now) (a .text .now) (a .pairs .now)) (a .rows .now) _ (n .result) (r .result) (r .ensures) (n .ensures)
 
 pub telfjost-block-macro-attr-list-spec : {M : Type 1} → statement M
 telfjost-block-macro-attr-list-spec =

@@ -3,7 +3,7 @@ use Prim.Native.Nat.{_+_, _*_, _-_, _≤_}
 use native.Mathlib.Omega.{arith}
 use mathlib.Core.Path.{_≡_, _∙_}
 use lib.ListN.{drop}
-use Rattle.token.specs.LineLaws.{passed, passed-first, passed-before, passed-next, passed-end}
+use Rattle.token.proofs.Checks.{passed, passed-first, passed-before, passed-next, passed-end}
 use Rattle.token.specs.Line.{misplaced}
 use Rattle.token.proofs.line.some_misplaced.Statement.{statement}
 use Rattle.token.proofs.line.some_misplaced.Tie as tie

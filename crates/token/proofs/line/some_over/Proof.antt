@@ -3,7 +3,7 @@ use Prim.Native.Nat.{_-_, _≤_}
 use native.Mathlib.Omega.{arith}
 use mathlib.Core.Path.{_≡_, refl, _∙_}
 use lib.ListN.{length, drop}
-use Rattle.token.specs.LineLaws.{over-here, over-next, over-end}
+use Rattle.token.proofs.Checks.{over-here, over-next, over-end}
 use Rattle.token.specs.Line.{someOver}
 use Rattle.token.proofs.line.some_over.Statement.{statement}
 use Rattle.token.proofs.line.some_over.Tie as tie

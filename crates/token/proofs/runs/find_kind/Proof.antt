@@ -3,8 +3,8 @@ use Prim.Native.Nat.{_-_}
 use native.Mathlib.Omega.{arith}
 use mathlib.Core.Path.{sym, _∙_}
 use Rattle.token.proofs.Finds.{Sought, sought-start, sought-next, sought-here, sought-end}
-use Rattle.token.specs.Kept.{is-kind, not-kind}
-use Rattle.token.specs.Parts.{found-place}
+use Rattle.token.specs.KeptLaws.{is-kind, not-kind}
+use Rattle.token.specs.PlacesLaws.{found-place}
 use Rattle.token.specs.Line.{lineOf}
 use Rattle.token.specs.Run.{ofKind}
 use Rattle.token.proofs.runs.find_kind.Statement.{statement}

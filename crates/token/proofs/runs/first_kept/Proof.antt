@@ -40,7 +40,7 @@ use denote.Exit.{yes}
 use denote.Triple.Clauses.{ensured, lasts}
 use Rattle.token.specs.Line.{lineOf}
 use Rattle.token.specs.Run.{kept, firstPlace}
-use Rattle.token.specs.Parts.{all, StartsAt}
+use Rattle.token.specs.Places.{all, StartsAt}
 use Rattle.token.specs.declared.TokenPlace.{TokenPlace}
 use Rattle.token.specs.declared.steps.RunTokens.{RunTokens}
 use Rattle.token.proofs.Ranges.{first-starts}

@@ -3,7 +3,7 @@ use Prim.Native.Nat.{_-_}
 use native.Mathlib.Omega.{arith}
 use mathlib.Core.Path.{refl}
 use Rattle.token.proofs.Ranges.{Right, right-start, right-skip, right-done, right-end}
-use Rattle.token.specs.Parts.{all}
+use Rattle.token.specs.Places.{all}
 use Rattle.token.proofs.runs.past_last_kept.Statement.{statement}
 use Rattle.token.proofs.runs.past_last_kept.Tie as tie
 

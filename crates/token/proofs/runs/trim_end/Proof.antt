@@ -2,7 +2,7 @@
 use Prim.Native.Nat.{_-_}
 use native.Mathlib.Omega.{arith}
 use Rattle.token.proofs.Ranges.{Right, right-start, right-skip, right-end, right-space, right-word}
-use Rattle.token.specs.Kept.{trimEnd-none}
+use Rattle.token.specs.KeptLaws.{trimEnd-none}
 use Rattle.token.specs.Run.{trimEnd}
 use Rattle.token.proofs.runs.trim_end.Statement.{statement}
 use Rattle.token.proofs.runs.trim_end.Tie as tie

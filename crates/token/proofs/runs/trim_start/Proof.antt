@@ -2,7 +2,7 @@
 use Prim.Native.Nat.{_-_}
 use native.Mathlib.Omega.{arith}
 use Rattle.token.proofs.Ranges.{Left, left-start, left-skip, left-end, left-space, left-word}
-use Rattle.token.specs.Kept.{trimStart-none}
+use Rattle.token.specs.KeptLaws.{trimStart-none}
 use Rattle.token.specs.Run.{trimStart}
 use Rattle.token.proofs.runs.trim_start.Statement.{statement}
 use Rattle.token.proofs.runs.trim_start.Tie as tie

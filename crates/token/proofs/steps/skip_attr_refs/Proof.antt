@@ -3,7 +3,8 @@ use Prim.Native.Nat.{_-_}
 use native.Mathlib.Omega.{arith}
 use mathlib.Core.Path.{refl}
 use Rattle.token.proofs.Ranges.{Left, left-start, left-skip, left-done, left-end}
-use Rattle.token.specs.Parts.{all, starts-place}
+use Rattle.token.specs.Places.{all}
+use Rattle.token.specs.PlacesLaws.{starts-place}
 use Rattle.token.proofs.steps.skip_attr_refs.Statement.{statement}
 use Rattle.token.proofs.steps.skip_attr_refs.Tie as tie
 

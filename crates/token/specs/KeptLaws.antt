@@ -12,6 +12,7 @@ use borrow.Author.Tests.{eq-eqb, ne-eqb}
 use Rattle.token.specs.Kind.{attrRef}
 use Rattle.token.specs.Line.{Line, Token, tokenAt, tokens}
 use Rattle.token.specs.Run.{ofKind, isAttrRef, isWhitespace, without, upTo, onward, lastOf, front, kept, trimStart, leave, trimEnd, trim, bothQuotes, quoted, inside, unquote, run, emptyRun, runOf}
+use Rattle.token.specs.Places.{Ends, FoundIn}
 
 -- ---- lists of tokens
 
@@ -150,13 +151,6 @@ module _ (l : Line) (from to : ℕ) (h : from < to) where
 
 -- ---- the first kept token for which p holds, found place by place
 
-pub record FoundIn (l : Line) (p : Token → Bool) (from to r : ℕ) : Type 0 where
-  pub before : kept l from r ≡ upTo p (kept l from to)
-  pub after : kept l r to ≡ onward p (kept l from to)
-  pub none : onward p (kept l from r) ≡ []
-  pub kept : r < to → getD (l .kinds) r 0 ≡ attrRef → ⊥
-  pub here : r < to → p (tokenAt l r) ≡ true
-
 module _ (l : Line) (p : Token → Bool) (from : ℕ) where
   pub none-start : onward p (kept l from from) ≡ []
   none-start = ap (onward p) (kept-none l from from (omega arith)) ∙ onward-none p
@@ -245,10 +239,6 @@ unfolding runOf
 run-none ts e = rw e
 
 -- ---- some places both of whose ends are kept tokens
-
-pub record Ends (kinds : List ℕ) (from to : ℕ) : Type 0 where
-  pub first : from < to → getD kinds from 0 ≡ attrRef → ⊥
-  pub last : from < to → getD kinds (to - 1) 0 ≡ attrRef → ⊥
 
 module _ (l : Line) (from to : ℕ) (w : Ends (l .kinds) from to) where
   pub kept-ends : from + 1 < to → kept l from to ≡ tokenAt l from ∷ (kept l (from + 1) (to - 1) ++ (tokenAt l (to - 1) ∷ []))

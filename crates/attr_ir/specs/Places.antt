@@ -2,7 +2,7 @@
 use Prim.Native.Nat.{ℕ, _+_, _-_, _≤_}
 use mathlib.Core.List.{List}
 use Rattle.token.specs.declared.Run.{Run}
-use Rattle.token.specs.Kept.{Ends}
+use Rattle.token.specs.Places.{Ends}
 use Rattle.attr_ir.specs.declared.AttrIr.{AttrIr}
 use Rattle.attr_ir.specs.declared.AttrIr.the-variants.{Positional, Named, Plain, Options, Roles, Id, Shorthand}
 

@@ -1,13 +1,13 @@
 -- What calls that write rows answer, and what the search for the next symbol finds.
-use Prim.Native.Nat.{ℕ, _+_, _-_, _≤_, _<_}
+use Prim.Native.Nat.{ℕ, zero, suc, _+_, _-_, _≤_, _<_}
 use mathlib.Core.Path.{_≡_}
 use mathlib.Core.Bool.{true}
 use mathlib.Core.List.{List}
 use lib.ListN.{length, getD}
 use Rattle.token.specs.Kind.{attrRef}
 use Rattle.token.specs.Line.{lineOf, tokenAt}
-use Rattle.token.specs.Kept.{FoundIn}
-use Rattle.row.specs.Laws.{Wrote}
+use Rattle.token.specs.Places.{FoundIn}
+use Rattle.row.specs.Row.{Wrote}
 use Rattle.attribute.specs.declared.Written.{Written}
 use Rattle.attribute.specs.Attribute.{Read, isStop}
 
@@ -30,3 +30,8 @@ pub record StopsAt (kinds text pairs : List ℕ) (from to r : ℕ) : Type 0 wher
 pub record StopFirst (kinds text pairs : List ℕ) (from to : ℕ) : Type 0 where
   pub first : from < to → getD kinds from 0 ≡ attrRef → ⊥
   pub stop : from < to → isStop (tokenAt (lineOf kinds text pairs) from) ≡ true
+
+-- max(1, n): "an attribute of n tokens gives at most max(1, n) rows" (law `rows-few`)
+abbrev pub orOne : ℕ → ℕ
+orOne zero = 1
+orOne (suc n) = suc n

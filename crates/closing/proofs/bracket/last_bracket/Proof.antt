@@ -3,8 +3,8 @@ use borrow.Author.Needs.{needs}
 use Prim.Native.Nat.{_-_}
 use Rattle.closing.specs.Laws.{last-none}
 use Rattle.closing.specs.Laws.{last-here, last-not}
-use Rattle.closing.proofs.last_bracket.Statement.{statement}
-use Rattle.closing.proofs.last_bracket.Tie as tie
+use Rattle.closing.proofs.bracket.last_bracket.Statement.{statement}
+use Rattle.closing.proofs.bracket.last_bracket.Tie as tie
 
 returns : tie.Need-returns
 returns c = last-none (c .before .args .kinds .now) (c .if1 .taken)

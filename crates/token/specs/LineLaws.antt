@@ -7,6 +7,7 @@ use mathlib.Core.List.{List, [], _∷_}
 use lib.Dec.{eqb, ltb}
 use lib.ListN.{length, getD}
 use borrow.Author.Tests.{ne-eqb, eqb-true, eqb-false, le-ltb, ltb-true, ltb-false}
+use Rattle.refusals.specs.Refusals.{noTokens, tooManyTokens, textTooLong, pairsNotTwo, kindTooLarge, pairsNotInOrder}
 use Rattle.token.specs.Kind.{largest, closeBracket, openBracket}
 use Rattle.token.specs.Line.{lineOf, mostTokens, mostBytes, someOver, misplaced, Over, Placed, check, refusal, isBlockAttrList}
 use Rattle.token.specs.Lent.{Lent}
@@ -100,12 +101,12 @@ not-no false e = sym e
 pub lent : (most : ℕ) (kinds text pairs : List ℕ) → most ≤ mostTokens → refusal most (lineOf kinds text pairs) ≡ 0 → Lent kinds text pairs
 unfolding refusal
 lent most kinds text pairs few e =
-    let c1 = check-none (eqb (length kinds) 0) 1 _ (omega arith) e in
-    let c2 = check-none (ltb most (length kinds)) 2 _ (omega arith) (c1 .1) in
-    let c3 = check-none (ltb mostBytes (length text)) 3 _ (omega arith) (c2 .1) in
-    let c4 = check-none (not (eqb (length pairs) (2 * length kinds))) 4 _ (omega arith) (c3 .1) in
-    let c5 = check-none (someOver kinds) 5 _ (omega arith) (c4 .1) in
-    let c6 = check-none (misplaced (length text) 0 pairs) 6 0 (omega arith) (c5 .1) in
+    let c1 = check-none (eqb (length kinds) 0) noTokens _ (omega arith) e in
+    let c2 = check-none (ltb most (length kinds)) tooManyTokens _ (omega arith) (c1 .1) in
+    let c3 = check-none (ltb mostBytes (length text)) textTooLong _ (omega arith) (c2 .1) in
+    let c4 = check-none (not (eqb (length pairs) (2 * length kinds))) pairsNotTwo _ (omega arith) (c3 .1) in
+    let c5 = check-none (someOver kinds) kindTooLarge _ (omega arith) (c4 .1) in
+    let c6 = check-none (misplaced (length text) 0 pairs) pairsNotInOrder 0 (omega arith) (c5 .1) in
     let paired : length pairs ≡ 2 * length kinds = eqb-true (length pairs) (2 * length kinds) (not-no (eqb (length pairs) (2 * length kinds)) (c4 .0)) in
     let none : length kinds ≡ 0 → ⊥ = eqb-false (length kinds) 0 (c1 .0) in
     let n : length kinds ≤ most = ltb-false most (length kinds) (c2 .0) in

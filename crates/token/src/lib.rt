@@ -3,7 +3,7 @@ pub mod kind;
 pub mod line;
 pub mod names;
 pub mod runs;
-pub mod steps;
+mod steps;
 
 // A token place: counts tokens.
 pub struct TokenPlace(pub usize);

@@ -39,7 +39,7 @@ returns-2 : tie.Need-returns-2
 returns-2 c = ir-positional _ _ _ _ _ _ _ (c .before .before .before .before .before .before .look .ensures) (c .before .before .before .before .reading .given .0 .0) (c .before .before .before .before .reading .given .1) _ (c .before .unquote .ensures .0) (c .before .unquote .ensures .1) (c .before .before .both .result) (c .before .before .both .ensures) _ (c .to-cut .ensures)
 
 returns-3 : tie.Need-returns-3
-returns-3 c = ir-named _ _ _ _ _ _ _ (c .before .before .before .look .ensures) (c .before .enum-told2 .given .1) _ (c .parse-key-value-attr .ensures .0) (c .parse-key-value-attr .ensures .1 .0) (c .parse-key-value-attr .ensures .1 .1)
+returns-3 c = ir-named _ _ _ _ _ _ _ (c .before .before .before .look .ensures) (c .before .enum-told2 .given .1) _ (c .parse-key-value-attr .ensures)
 
 pub attr-ir-spec : {M : Type 1} → statement M
 attr-ir-spec =

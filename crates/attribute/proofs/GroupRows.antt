@@ -10,16 +10,16 @@ use lib.Seq.{sets}
 use borrow.Author.Tests.{eq-eqb, ne-eqb, eqb-true, eqb-false}
 use Rattle.token.specs.declared.Run.{Run}
 use Rattle.token.specs.Kind.{attrRef, dots, hash, percent}
-use Rattle.token.specs.Line.{Token, lineOf, tokenAt}
+use Rattle.token.specs.Line.{Line, Token, lineOf, tokenAt}
 use Rattle.token.specs.Run.{kept, ofKind, ofOne, trim, runOf, onward}
 use Rattle.token.specs.KeptLaws.{none-start, none-skip, none-more, found-here, found-none}
 use Rattle.token.specs.Places.{FoundAt}
 use Rattle.token.specs.NamesLaws.{kind-of}
 use Rattle.row.specs.declared.Row.{Row}
-use Rattle.row.specs.Row.{width, numbers, oneRun, diagnostic, ident}
+use Rattle.row.specs.Row.{width, numbers, oneRun, diagnostic, ident, withRows}
 use Rattle.row.specs.Laws.{Writes, writes-start, writes-part, writes-wrote, Wrote, wrote-none, wrote-one}
 use Rattle.attribute.specs.declared.Written.{Written}
-use Rattle.attribute.specs.Attribute.{Read, oneRow, isStop, unlessEmpty, groups, groupRows, idRun}
+use Rattle.attribute.specs.Attribute.{Read, oneRow, isStop, runRows, unlessEmpty, groups, groupRows, idRun}
 use Rattle.attribute.specs.Written.{WroteId, StopsAt}
 use Rattle.attribute.proofs.Lists.{groups-next, groups-last, groupRows-first, unless-none, run-count}
 
@@ -30,6 +30,9 @@ wrote-row before at row id after e = rw e (record { wrote = wrote-one before at 
 
 pub wrote-same : (before : List ℕ) (at : ℕ) (a b : Read) (after : List ℕ) (r : Written) → a ≡ b → WroteId before at a after r → WroteId before at b after r
 wrote-same before at a b after r e w = subst (λ (x : Read). WroteId before at x after r) e w
+
+pub positional-row : (before : List ℕ) (at : ℕ) (after : List ℕ) (l : Line) (from to : ℕ) (run : Run) (row : Row) → run ≡ runOf (kept l from to) → row ≡ oneRun 2 run → after ≡ sets before (width * at) (numbers row) → after ≡ withRows before at (runRows l from to)
+positional-row before at after l from to run row e f g = g ∙ rw (f, e) (wrote-one before at (oneRun 2 (runOf (kept l from to))) .buffer)
 
 -- ---- one group
 

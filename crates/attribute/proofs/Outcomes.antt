@@ -3,7 +3,9 @@ use Prim.Native.Nat.{ℕ, _+_, _-_, _≤_}
 use native.Mathlib.Omega.{arith}
 use mathlib.Core.Bool.{Bool, true, false, cond}
 use mathlib.Core.Path.{_≡_, refl, sym, ap, subst, _∙_}
-use mathlib.Core.List.{List}
+use mathlib.Core.List.{List, [], _∷_}
+use mathlib.Core.Logic.{⊎-elim}
+use types.Run.{OneOf}
 use lib.Dec.{eqb}
 use lib.ListN.{length}
 use Rattle.token.specs.declared.Run.{Run}
@@ -57,6 +59,19 @@ module _ (kinds : List ℕ) (a b : ℕ) where
   most-few (ir.Id r) w = omega arith
   most-few (ir.Shorthand r) w = omega (arith, w .few)
 
+-- ---- what is not to be cut
+
+-- the tag of a positional is the first
+pub not-first : (n : ℕ) → OneOf (1 ∷ 2 ∷ 3 ∷ 4 ∷ 5 ∷ 6 ∷ []) n → n ≡ 0 → ⊥
+not-first n k z =
+    ⊎-elim (λ e. omega (arith, e, z)) (⊎-elim (λ e. omega (arith, e, z)) (⊎-elim (λ e. omega (arith, e, z)) (⊎-elim (λ e. omega (arith, e, z)) (⊎-elim (λ e. omega (arith, e, z)) (λ e. omega (arith, e, z)))))) k
+
+pub uncut-not : (i : AttrIr) (run : Run) (cut : Bool) → i ≡ ir.Positional run cut → cut ≡ false → (r : Run) → i ≡ ir.Positional r true → ⊥
+uncut-not i run cut e f r g =
+    let x : ir.Positional run false ≡ ir.Positional r true = ap (ir.Positional run) (sym f) ∙ sym e ∙ g in
+    let z : _≡_ {A = ℕ} 0 1 = cc in
+    omega arith
+
 -- ---- what each case writes
 
 module _ (l : Line) (i : AttrIr) (u : Uncut l i) where
@@ -100,22 +115,22 @@ module _ (l : Line) (i : AttrIr) (u : Uncut l i) where
     unfolding irRead
     put-roles run e w = put-as (ir.Roles run) e _ (λ again. refl) w
 
+    one-id : (run : Run) → WroteId before at (idRun has run) after r → Outcome (idRun has run) 1 before at r after
+    unfolding idRun
+    one-id run w = go (eqb (run .count) 0) has w
+      where
+        go : (b c : Bool) → WroteId before at (cond b (oneRow c (diagnostic 0 3)) (cond c (oneRow true (diagnostic (run .place .0) 4)) (oneRow true (ident run)))) after r
+            → Outcome (cond b (oneRow c (diagnostic 0 3)) (cond c (oneRow true (diagnostic (run .place .0) 4)) (oneRow true (ident run)))) 1 before at r after
+        go true c w = one (diagnostic 0 3) c w
+        go false true w = one (diagnostic (run .place .0) 4) true w
+        go false false w = one (ident run) true w
+
     pub put-id : (run : Run) → i ≡ ir.Id run → WroteId before at (idRun has run) after r → Put l i has before at r after
     unfolding irRead
     put-id run e w =
         let x : ir.Id run ≡ ir.Id (runOf (inRun l run)) = runs-as (ir.Id run) e in
         let same : run ≡ runOf (inRun l run) = cc in
-        put-as (ir.Id run) e (idRun has run) (λ again. ap (idRun has) same ∙ sym (id-by-run has (inRun l run))) (one-id w)
-      where
-        one-id : WroteId before at (idRun has run) after r → Outcome (idRun has run) 1 before at r after
-        unfolding idRun
-        one-id w = go (eqb (run .count) 0) has w
-          where
-            go : (b c : Bool) → WroteId before at (cond b (oneRow c (diagnostic 0 3)) (cond c (oneRow true (diagnostic (run .place .0) 4)) (oneRow true (ident run)))) after r
-                → Outcome (cond b (oneRow c (diagnostic 0 3)) (cond c (oneRow true (diagnostic (run .place .0) 4)) (oneRow true (ident run)))) 1 before at r after
-            go true c w = one (diagnostic 0 3) c w
-            go false true w = one (diagnostic (run .place .0) 4) true w
-            go false false w = one (ident run) true w
+        put-as (ir.Id run) e (idRun has run) (λ again. ap (idRun has) same ∙ sym (id-by-run has (inRun l run))) (one-id run w)
 
     pub put-shorthand : (run : Run) → i ≡ ir.Shorthand run → Outcome (inShorthand has (inRun l run)) (run .count) before at r after → Put l i has before at r after
     unfolding irRead

@@ -29,8 +29,8 @@ use Rattle.attr_ir.specs.Places.{InLine, Bounded}
 use Rattle.attribute.specs.declared.Written.{Written}
 use Rattle.attribute.specs.Attribute.{Read, oneRow, rowFirst, isStop, runRows, cutRead, irRead, reading, attribute}
 use Rattle.attribute.specs.Laws.{again, cut-has-symbol}
-use Rattle.attribute.specs.Written.{StopFirst, Outcome, Uncut}
-use Rattle.attribute.proofs.Uncut.{bounded-in}
+use Rattle.attribute.specs.Written.{written, WroteId, StopFirst, Outcome, Uncut}
+use Rattle.attribute.proofs.Outcomes.{bounded-in}
 
 -- ---- only the first token decides for shorthand
 
@@ -116,6 +116,13 @@ shorthand-first block t ts us e = go (look block true false (t ∷ ts)) refl e
         (same, look-first block t ts (sym f))
     go (Positional n) f e = absurd (let z : _≡_ {A = ℕ} 0 1 = cc in omega arith)
     go Named f e = name (nameOf (Rattle.token.specs.Names.bytes (nameTokens (t ∷ ts)))) (nameTokens (t ∷ ts)) (valueTokens (t ∷ ts)) e
+
+-- ---- what is written, as `attr_rows` of the crate `attr_list` says it
+
+pub all-told : (before : List ℕ) (at : ℕ) (d D : Read) (after : List ℕ) (r : Written) (most : ℕ) → WroteId before at d after r → d ≡ D → r .rows ≤ most → (r ≡ written at D) × ((after ≡ withRows before at (D .rows)) × (r .rows ≤ most))
+all-told before at d D after r most w e h =
+    let v = subst (λ (x : Read). WroteId before at x after r) e w in
+    (rw (← v .wrote .count, ← v .id), (v .wrote .buffer, h))
 
 -- ---- an attribute trimmed to the run s
 

@@ -57,10 +57,10 @@ pub fn parse_attr<'a, 'b>(
     let AttrIr::Positional { run, cut } = ir else {
         return put_ir(kinds, text, pairs, ir, has, rows, at);
     };
-    if !cut {
-        return put_ir(kinds, text, pairs, ir, has, rows, at);
+    if cut {
+        return cut_positional(kinds, text, pairs, run, block, has, rows, at);
     }
-    cut_positional(kinds, text, pairs, run, block, has, rows, at)
+    put_ir(kinds, text, pairs, ir, has, rows, at)
 }
 
 // A positional cut before its first Dots, Hash or Percent: the row of what stands before it, then the rows of the tail, read as an attribute.

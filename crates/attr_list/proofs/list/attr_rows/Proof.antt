@@ -44,7 +44,7 @@ same-length-3 : tie.Need-same-length-3
 same-length-3 c = search needs
 
 returns-3 : tie.Need-returns-3
-returns-3 c = search needs
+returns-3 c = let r = c .before .before .parse-attr .ensures in (r .answer, (r .buffer, omega (arith, r .few)))
 
 pub attr-rows-spec : {M : Type 1} → statement M
 attr-rows-spec =

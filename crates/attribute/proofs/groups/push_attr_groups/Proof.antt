@@ -22,8 +22,7 @@ put-group-requires : tie.Need-put-group-requires Inv-loop μ-loop
 put-group-requires c κs =
     let f = c .before .find-kind .ensures .1 in
     let l = c .before .before .loop .inv in
-    let p = c .before .before .before .before .before .pre in
-    (
+    let p = c .before .before .before .before .before .pre in (
       (omega (arith, f .low), omega (arith, f .high), p .0 .2),
       omega (arith, l .few, l .low, l .high, l .long, p .1, f .high, f .low),
     )

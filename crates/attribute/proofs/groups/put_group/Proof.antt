@@ -22,8 +22,7 @@ one-run-requires c κs = search needs
 
 put-row-requires : tie.Need-put-row-requires
 put-row-requires c κs =
-    let t = c .before .before .before .trim .ensures .1 in
-    (
+    let t = c .before .before .before .trim .ensures .1 in (
       omega (arith, t .few, c .before .before .if1 .left),
       subst (λ (r : Row). Fits r) (sym (c .one-run .ensures)) (record { first-place = omega (arith, t .within); first-count = omega (arith, t .within); second-place = omega arith; second-count = omega arith }),
     )

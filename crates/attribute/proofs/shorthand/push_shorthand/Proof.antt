@@ -3,7 +3,7 @@ use Prim.Native.Nat.{_-_}
 use native.Mathlib.Omega.{arith}
 use mathlib.Core.Path.{refl, sym, subst, _∙_}
 use Rattle.attribute.proofs.Shorts.{Shorting, shorting-start, shorting-last, shorting-second, shorting-next, shorting-end}
-use Rattle.attribute.proofs.Uncut.{told}
+use Rattle.attribute.proofs.Outcomes.{told}
 use Rattle.row.specs.Row.{Fits}
 use Rattle.row.specs.declared.Row.{Row}
 use Rattle.attribute.proofs.shorthand.push_shorthand.Statement.{statement}
@@ -104,16 +104,15 @@ put-row-requires c κs =
     let v = c .before .before .before .before .before .before .before .before .before .before .before .before .before .before .loop .inv in
     let p = c .before .before .before .before .before .before .before .before .before .before .before .before .before .before .before .before .before .before .before .pre in
     let run = c .before .before .before .before .run-of .ensures .1 in
-    let stop = c .before .before .before .before .before .find-stop .ensures in
-    (
+    let stop = c .before .before .before .before .before .find-stop .ensures in (
       omega (arith, v .few, v .low, v .high, v .long, p .1 .0 .2, p .1 .0 .1, p .0 .few, c .before .before .before .before .before .before .before .before .before .before .before .before .before .loop-test .taken),
       subst (λ (r : Row). Fits r) (sym (c .one-run .ensures))
-      (record {
-        first-place = omega (arith, run .within, stop .high, p .1 .0 .1, p .0 .few);
-        first-count = omega (arith, run .within, stop .high, p .1 .0 .1, p .0 .few);
-        second-place = omega arith;
-        second-count = omega arith;
-      }),
+          (record {
+            first-place = omega (arith, run .within, stop .high, p .1 .0 .1, p .0 .few);
+            first-count = omega (arith, run .within, stop .high, p .1 .0 .1, p .0 .few);
+            second-place = omega arith;
+            second-count = omega arith;
+          }),
     )
 
 either-requires : tie.Need-either-requires Inv-loop μ-loop

@@ -135,7 +135,8 @@ again block has ts =
 plain-token : (block first noted n : Bool) (t : Token) (ts : List Token) (k : Bool → Reading) → isSymbol t ≡ false → ((m : Bool) → k m ≡ Positional n → n ≡ m) → decided (sight block first noted t ts) k ≡ Positional n → n ≡ noted
 unfolding sight
 plain-token block first noted n t ts k e h f =
-    go (isQuote t) (isWhitespace t) (nextEquals ts) (isEquals t) first (ofOne t) (subst (λ (b : Bool). decided (cond (b && ofOne t) (symbolSight (block && first) ts) (cond (isQuote t) (Is (Positional noted)) (cond (isWhitespace t) (cond (nextEquals ts) (On noted) (Is (Positional noted))) (cond (isEquals t) (cond first (Is (Positional noted)) (cond (ofOne t) (Is Named) (On noted))) (On noted))))) k ≡ Positional n) e f)
+    go (isQuote t) (isWhitespace t) (nextEquals ts) (isEquals t) first (ofOne t) (subst (λ (b : Bool). decided (cond (b && ofOne t) (symbolSight (block && first) ts)
+    (cond (isQuote t) (Is (Positional noted)) (cond (isWhitespace t) (cond (nextEquals ts) (On noted) (Is (Positional noted))) (cond (isEquals t) (cond first (Is (Positional noted)) (cond (ofOne t) (Is Named) (On noted))) (On noted))))) k ≡ Positional n) e f)
   where
     same : Positional noted ≡ Positional n → n ≡ noted
     same e = cc

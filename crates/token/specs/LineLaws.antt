@@ -83,7 +83,8 @@ placed-not size end (o ∷ n ∷ ps) w =
     (placed-not size (o + n) ps (record { first = λ h. w .follows 0 (omega (arith, h)); follows = λ p h. next-follows p h; within = λ p h. next-within p h }))
   where
     next-follows : (p : ℕ) → 2 * p + 3 < length ps → getD ps (2 * p) 0 + getD ps (2 * p + 1) 0 ≤ getD ps (2 * p + 2) 0
-    next-follows p h = subst (λ (x : ℕ). getD (o ∷ n ∷ ps) x 0 + getD ps (2 * p + 1) 0 ≤ getD ps (2 * p + 2) 0) (twice p) (subst (λ (x : ℕ). getD (o ∷ n ∷ ps) (2 * suc p) 0 + getD (o ∷ n ∷ ps) x 0 ≤ getD ps (2 * p + 2) 0) (twice-1 p) (subst (λ (x : ℕ). getD (o ∷ n ∷ ps) (2 * suc p) 0 + getD (o ∷ n ∷ ps) (2 * suc p + 1) 0 ≤ getD (o ∷ n ∷ ps) x 0) (twice-2 p) (w .follows (suc p) (omega (arith, h)))))
+    next-follows p h = subst (λ (x : ℕ). getD (o ∷ n ∷ ps) x 0 + getD ps (2 * p + 1) 0 ≤ getD ps (2 * p + 2) 0) (twice p)
+        (subst (λ (x : ℕ). getD (o ∷ n ∷ ps) (2 * suc p) 0 + getD (o ∷ n ∷ ps) x 0 ≤ getD ps (2 * p + 2) 0) (twice-1 p) (subst (λ (x : ℕ). getD (o ∷ n ∷ ps) (2 * suc p) 0 + getD (o ∷ n ∷ ps) (2 * suc p + 1) 0 ≤ getD (o ∷ n ∷ ps) x 0) (twice-2 p) (w .follows (suc p) (omega (arith, h)))))
 
     next-within : (p : ℕ) → 2 * p + 1 < length ps → getD ps (2 * p) 0 + getD ps (2 * p + 1) 0 ≤ size
     next-within p h = subst (λ (x : ℕ). getD (o ∷ n ∷ ps) x 0 + getD ps (2 * p + 1) 0 ≤ size) (twice p) (subst (λ (x : ℕ). getD (o ∷ n ∷ ps) (2 * suc p) 0 + getD (o ∷ n ∷ ps) x 0 ≤ size) (twice-1 p) (w .within (suc p) (omega (arith, h))))

@@ -91,7 +91,10 @@ run-of-requires c κs =
     (stop .low, omega (arith, stop .high, c .before .before .before .before .before .before .before .before .before .before .before .before .before .before .pre .1 .0 .1))
 
 shared-slice-read-symbol-tag : tie.Need-shared-slice-read-symbol-tag Inv-loop μ-loop
-shared-slice-read-symbol-tag c = omega (arith, c .before .before .before .before .before .before .before .before .before .before .before .loop-test .taken, c .before .before .before .before .before .before .before .before .before .before .before .before .before .before .before .before .before .pre .1 .0 .1)
+shared-slice-read-symbol-tag c =
+    let p = c .before .before .before .before .before .before .before .before .before .before .before .before .before .before .before .before .before .pre in
+    let loop-test = c .before .before .before .before .before .before .before .before .before .before .before .loop-test in
+    omega (arith, loop-test .taken, p .1 .0 .1)
 
 symbol-tag-requires : tie.Need-symbol-tag-requires Inv-loop μ-loop
 symbol-tag-requires c κs = tt
@@ -137,7 +140,8 @@ loop-again c =
     let hash = c .before .before .before .before .before .before .before .before .before .before .before .before .is-hash in
     let new = sym (c .before .before .before .before .before .before .before .before .before .before .before .both .ensures) ∙ c .before .before .before .before .before .before .before .before .before .before .if2 .left in
     let stop = c .before .before .before .before .before .before .before .before .before .find-stop in
-    shorting-next _ _ _ _ _ _ _ _ (l .i) (l .rows) (l .n) (l .id) (l .inv) (c .before .before .before .before .before .before .before .before .before .before .before .before .before .before .before .before .before .loop-test .taken) (f .result .0) (f .ensures .1) (c .before .before .before .before .before .before .before .before .before .before .before .before .before .before .if1 .left) (hash .result) (hash .ensures) new
+    shorting-next _ _ _ _ _ _ _ _ (l .i) (l .rows) (l .n) (l .id) (l .inv)
+    (c .before .before .before .before .before .before .before .before .before .before .before .before .before .before .before .before .before .loop-test .taken) (f .result .0) (f .ensures .1) (c .before .before .before .before .before .before .before .before .before .before .before .before .before .before .if1 .left) (hash .result) (hash .ensures) new
     (stop .result .0) (stop .ensures) _ (c .before .before .before .before .before .before .before .before .run-of .ensures .0 _ _) _ (c .before .before .before .before .before .symbol-tag .ensures) _ (c .before .before .before .before .one-run .ensures) _ (c .before .before .before .put-row .ensures) _ (c .either .ensures)
 
 same-length-3 : tie.Need-same-length-3 Inv-loop μ-loop

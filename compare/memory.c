@@ -39,7 +39,7 @@ static void *exactly(size_t bytes) {
     return p;
 }
 
-static const uint8_t telling[] = {3, 5, 10, 13, 13, 13, 19, 20, 23, 27, 34, 36, 43, 49, 50, 50};
+static const uint8_t significant[] = {3, 5, 10, 13, 13, 13, 19, 20, 23, 27, 34, 36, 43, 49, 50, 50};
 
 struct line {
     uint8_t *kinds, *text;
@@ -67,7 +67,7 @@ static struct line some_line(void) {
     l.pairs = exactly(l.numbers * sizeof *l.pairs);
     size_t at = 0;
     for (size_t i = 0; i < l.tokens; i++) {
-        l.kinds[i] = below(8) ? telling[below(sizeof telling)] : (uint8_t)below(51);
+        l.kinds[i] = below(8) ? significant[below(sizeof significant)] : (uint8_t)below(51);
         at += below(16) == 0;
         l.pairs[2 * i] = (uint32_t)at;
         l.pairs[2 * i + 1] = below(8) ? 1 : below(5);

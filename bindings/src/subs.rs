@@ -91,7 +91,8 @@ impl fmt::Display for Sub {
 /// not held (in sheet mode: not sound) is refused, and [`Set::refusal`] tells beforehand.
 ///
 /// Port mode does what asciidork-parser 0.38.2 does, sheet mode what AsciiDoc documents;
-/// docs/RULES.md has the rules of both.
+/// docs/RULES.md has the rules of both. `Set::default()` is the empty set; that of the Rust's
+/// `Substitutions` is [`Set::normal`].
 #[derive(Debug, Clone, Copy, PartialEq, Eq, Hash, Default)]
 #[repr(C)]
 pub struct Set {

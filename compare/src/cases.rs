@@ -2,7 +2,7 @@
 //! every run from the same seed.
 
 use crate::check::{Checked, SUBS_NAMES, Worker};
-use crate::lines::{HALVES, LineBuf, TELLING, Tok, any_kinds_line, random_line, spoil_utf8};
+use crate::lines::{HALVES, LineBuf, SIGNIFICANT, Tok, any_kinds_line, random_line, spoil_utf8};
 use crate::model::{self, MOST_BYTES, MOST_TOKENS, ROW};
 use crate::rng::Rng;
 use crate::rust_side::{ENTRIES, Entry, MODES, MOVES, Mode, NO_SUBS, NORMAL, Set};
@@ -110,16 +110,16 @@ fn exhaustive_lists(more: usize) -> Vec<Piece> {
     let mid = vec![A, REF, SPACE, COMMA, DOUBLE, SINGLE, EQUAL, EQUALS, DOT, DOTS, HASH, CLOSE, OPEN, BACK];
     let sets = [
         Every {
-            class: "every line, telling tokens, any end",
-            alphabet: TELLING.to_vec(),
+            class: "every line, significant tokens, any end",
+            alphabet: SIGNIFICANT.to_vec(),
             before: vec![],
             after: vec![],
             longest: 3,
             entries: &ENTRIES,
         },
         Every {
-            class: "every line, telling tokens, closed",
-            alphabet: TELLING[..27].to_vec(),
+            class: "every line, significant tokens, closed",
+            alphabet: SIGNIFICANT[..27].to_vec(),
             before: vec![],
             after: close(),
             longest: 4,

@@ -1,4 +1,4 @@
-//! Lines of tokens: the telling tokens, and ways to build lines from them.
+//! Lines of tokens: the significant tokens, and ways to build lines from them.
 
 use crate::rng::Rng;
 use crate::rust_side::{KINDS, Lent};
@@ -120,7 +120,7 @@ fn written_out(text: &str) -> Option<(TokenKind, &str, &str)> {
 /// Each kind that a rule names, at each length that a rule names; a text that differs from the
 /// usual one where a rule looks at text; AttrRef; zero-length tokens; the names that rules
 /// name; and kinds that no rule names.
-pub const TELLING: [Tok; 33] = [
+pub const SIGNIFICANT: [Tok; 33] = [
     (Word, "a"),
     (Word, ""),
     (AttrRef, "{x}"),
@@ -206,14 +206,14 @@ fn gap(line: &mut LineBuf, rng: &mut Rng) {
     }
 }
 
-/// A line of `len` tokens: a few of the telling tokens, again and again; most end in a
+/// A line of `len` tokens: a few of the significant tokens, again and again; most end in a
 /// CloseBracket; some have gaps.
 pub fn random_line(line: &mut LineBuf, rng: &mut Rng, len: usize) {
     line.clear();
-    let mut palette = [TELLING[0]; 12];
+    let mut palette = [SIGNIFICANT[0]; 12];
     let colours = 2 + rng.below(10);
     for colour in &mut palette[..colours] {
-        *colour = if rng.one_in(8) { *rng.pick(&HALVES) } else { TELLING[rng.below(TELLING.len())] };
+        *colour = if rng.one_in(8) { *rng.pick(&HALVES) } else { SIGNIFICANT[rng.below(SIGNIFICANT.len())] };
     }
     let gaps = rng.one_in(3);
     let brackets = rng.one_in(3);
@@ -221,10 +221,13 @@ pub fn random_line(line: &mut LineBuf, rng: &mut Rng, len: usize) {
         if gaps && rng.one_in(4) {
             gap(line, rng);
         }
-        let mut token =
-            if rng.one_in(20) { TELLING[rng.below(TELLING.len())] } else { palette[rng.below(colours)] };
+        let mut token = if rng.one_in(20) {
+            SIGNIFICANT[rng.below(SIGNIFICANT.len())]
+        } else {
+            palette[rng.below(colours)]
+        };
         if token.0 == CloseBracket && !brackets && place > 0 {
-            token = TELLING[0];
+            token = SIGNIFICANT[0];
         }
         if place + 1 == len && !rng.one_in(10) {
             token = (CloseBracket, "]");
@@ -246,7 +249,7 @@ pub fn any_kinds_line(line: &mut LineBuf, rng: &mut Rng, len: usize) {
         let kind = if place + 1 == len && !rng.one_in(8) {
             CloseBracket
         } else if rng.one_in(3) {
-            TELLING[rng.below(TELLING.len())].0
+            SIGNIFICANT[rng.below(SIGNIFICANT.len())].0
         } else {
             KINDS[rng.below(51)]
         };

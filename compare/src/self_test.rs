@@ -5,7 +5,7 @@
 use crate::check::{expected_move, expected_set};
 use crate::deq::Deq;
 use crate::library::Library;
-use crate::lines::{LineBuf, TELLING};
+use crate::lines::{LineBuf, SIGNIFICANT};
 use crate::model::{self, line_refusal, room_refusal};
 use crate::parser::SourceLocation;
 use crate::record;
@@ -295,19 +295,19 @@ fn refusals(t: &mut Tests) {
     }
 }
 
-/// Every line of up to three telling tokens: what comes back lies inside the line, and a
+/// Every line of up to three significant tokens: what comes back lies inside the line, and a
 /// panic arises only where a token or a closing bracket is missing.
 fn short_lines(t: &mut Tests) {
     let mut rows = Vec::new();
     let mut inside = true;
     let mut outcomes = [0u64; 3];
     for len in 1..=3u32 {
-        for number in 0..TELLING.len().pow(len) {
+        for number in 0..SIGNIFICANT.len().pow(len) {
             let mut line = LineBuf::default();
             let mut rest = number;
             for _ in 0..len {
-                line.push_all(&TELLING[rest % TELLING.len()..=rest % TELLING.len()]);
-                rest /= TELLING.len();
+                line.push_all(&SIGNIFICANT[rest % SIGNIFICANT.len()..=rest % SIGNIFICANT.len()]);
+                rest /= SIGNIFICANT.len();
             }
             for entry in ENTRIES {
                 match rust_side::read(entry, line.lent(), &mut rows) {

@@ -222,6 +222,46 @@ static void one_subs(void) {
     free(text);
 }
 
+typedef telfjost_set_answer move(telfjost_set, uint8_t);
+
+/* port mode first */
+static move *const moves[2][3] = {
+    {telfjost_insert, telfjost_remove, telfjost_prepend},
+    {telfjost_insert_sheet, telfjost_remove_sheet, telfjost_prepend_sheet},
+};
+
+static telfjost_set (*const starts[])(void) = {
+    telfjost_none, telfjost_normal, telfjost_verbatim,
+    telfjost_attr_value, telfjost_only_special_chars, telfjost_all,
+};
+
+/* moves from a starting set on, and from a damaged one */
+static void one_walk(void) {
+    telfjost_set set = starts[below(sizeof starts / sizeof *starts)]();
+    if (telfjost_set_refusal_sheet(set) != 0)
+        wrong("a starting set is not sound");
+    if (below(3) == 0)
+        set.places[below(7)] = (uint8_t)below(256);
+    if (below(4) == 0)
+        set.flags = (uint8_t)below(256);
+    for (int i = 0; i < 8; i++) {
+        uint8_t kind = below(8) ? (uint8_t)(1 + below(7)) : (uint8_t)below(256);
+        bool sheet = below(2);
+        int step = (int)below(3);
+        telfjost_set_answer a = moves[sheet][step](set, kind);
+        if (a.refusal != (sheet ? telfjost_set_refusal_sheet : telfjost_set_refusal)(set))
+            wrong("a move refuses another set than the test of sets does");
+        if ((a.refusal != 0 || kind < 1 || kind > 7) && memcmp(&a.set, &set, sizeof set) != 0)
+            wrong("a move changed a set that it must leave");
+        if (a.refusal == 0 && telfjost_set_refusal(a.set) != 0)
+            wrong("a move gave a set that is not held");
+        if (a.refusal == 0 && kind >= 1 && kind <= 7 && telfjost_contains(a.set, kind) != (step != 1))
+            wrong("a move did not set or clear the flag");
+        *(a.refusal == 0 ? &read_calls : &refused_calls) += 1;
+        set = a.set;
+    }
+}
+
 int main(int argc, char **argv) {
     unsigned long long calls = argc > 1 ? strtoull(argv[1], NULL, 10) : 100000;
     state = argc > 2 ? strtoull(argv[2], NULL, 10) : 1;
@@ -229,6 +269,7 @@ int main(int argc, char **argv) {
     while (read_calls + refused_calls < calls) {
         one_list();
         one_subs();
+        one_walk();
     }
     printf("memory: %llu calls answered, %llu refused, all as they must\n", read_calls,
            refused_calls);

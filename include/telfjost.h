@@ -1,5 +1,5 @@
 /*
- * Telfjost: a proved reader of AsciiDoc attribute lines.
+ * Telfjost: a proved reader of AsciiDoc attribute lines. docs/RULES.md tells the rules of reading.
  *
  * Link with target/staticlib/libtelfjost.a (`rt staticlib telfjost`), x86-64 Linux:
  *     cc -I include program.c target/staticlib/libtelfjost.a
@@ -121,21 +121,63 @@ telfjost_list telfjost_link_macro_attr_list(const uint8_t *kinds, size_t kinds_l
                                             uint32_t *rows, size_t rows_len);
 
 /*
- * A substitution set. A place holds a kind, 1 specialchars, 2 quotes, 3 attributes,
- * 4 replacements, 5 macros, 6 post_replacements, 7 callouts, or 0 for none; kind k has the flag
- * 2 to the power k - 1. A held set has places of 0 to 7 only, is packed from the front, has no
- * kind twice, a flag for every kind placed, bit 7 clear, and at most one flag without a place. A
- * sound set is held and has no flag without a place. The normal set is {{1, 2, 3, 4, 5, 6, 0}, 63}.
+ * A substitution set: seven places, in the order in which the substitutions are applied, and a flag
+ * byte. A place holds a kind, or 0 for none; kind k has the flag 2 to the power k - 1. The kinds:
+ *
+ *   1 specialchars   2 quotes   3 attributes   4 replacements   5 macros
+ *   6 post_replacements   7 callouts
+ *
+ * A held set has places of 0 to 7 only, is packed from the front, has no kind twice, a flag for
+ * every kind placed, bit 7 clear, and at most one flag without a place. A sound set is held and has
+ * no flag without a place. Port mode takes every held set, sheet mode every sound one; each mode
+ * gives back only sets that it takes.
+ *
+ * Two modes: port mode does what asciidork-parser 0.38.2 does, sheet mode what AsciiDoc documents,
+ * as docs/RULES.md has it. docs/DIFFERENCES.md tells where they differ.
  */
 typedef struct {
     uint8_t places[7];
     uint8_t flags;
 } telfjost_set;
 
+/* The sets that the Rust begins with. Each is sound. */
+telfjost_set telfjost_none(void);               /* {{0, 0, 0, 0, 0, 0, 0}, 0} */
+telfjost_set telfjost_normal(void);             /* {{1, 2, 3, 4, 5, 6, 0}, 63}, as for a paragraph */
+telfjost_set telfjost_verbatim(void);           /* {{1, 7, 0, 0, 0, 0, 0}, 65}, as for a listing */
+telfjost_set telfjost_attr_value(void);         /* {{1, 2, 3, 4, 0, 0, 0}, 15} */
+telfjost_set telfjost_only_special_chars(void); /* {{1, 0, 0, 0, 0, 0, 0}, 1} */
+telfjost_set telfjost_all(void);                /* {{1, 2, 3, 4, 5, 6, 7}, 127} */
+
+/* Is the flag of the kind set? Looks at the flags alone and refuses no set; in port mode a kind may
+ * be flagged and stand in no place. False for a number that names no kind (0, or over 7). */
+bool telfjost_contains(telfjost_set set, uint8_t kind);
+
+/* Why a mode would refuse the set: port mode 0 or 10, sheet mode 0, 10 or 11. */
+size_t telfjost_set_refusal(telfjost_set set);
+size_t telfjost_set_refusal_sheet(telfjost_set set);
+
 typedef struct {
     size_t refusal;   /* 0, or 9 to 11; then `set` is the set given */
-    telfjost_set set; /* what the text makes of the set given */
+    telfjost_set set; /* what the call makes of the set given */
 } telfjost_set_answer;
+
+/*
+ * The moves. Each refuses a set that its mode does not take: 10, in sheet mode then 11. A number
+ * that names no kind (0, or over 7) is passed over: refusal 0 and the set given.
+ *
+ *   insert   does nothing if the kind's flag is set; else sets it and puts the kind into the first
+ *            empty place. In port mode the first empty place among the first six: with six filled
+ *            the flag alone is set, and the kind stands in no place. In sheet mode among all seven.
+ *   remove   takes the kind out of its place, closes the gap and clears the flag, also the flag of
+ *            a kind that stands in no place.
+ *   prepend  puts the kind into the first place, from wherever it stood, and sets its flag.
+ */
+telfjost_set_answer telfjost_insert(telfjost_set set, uint8_t kind);
+telfjost_set_answer telfjost_remove(telfjost_set set, uint8_t kind);
+telfjost_set_answer telfjost_prepend(telfjost_set set, uint8_t kind);
+telfjost_set_answer telfjost_insert_sheet(telfjost_set set, uint8_t kind);
+telfjost_set_answer telfjost_remove_sheet(telfjost_set set, uint8_t kind);
+telfjost_set_answer telfjost_prepend_sheet(telfjost_set set, uint8_t kind);
 
 /*
  * What the text of a subs attribute makes of a set. `present` is false where there is no subs
@@ -143,8 +185,8 @@ typedef struct {
  * that, and gives the empty set. The set given is checked in either case.
  */
 
-/* Port mode: as asciidork-parser 0.38.2 does it. There a kind that is inserted when six places
- * are filled gets its flag and no place. Refusals 9 and 10. */
+/* Port mode. There the name `verbatim` is specialchars and replacements, which is not the set that
+ * telfjost_verbatim() gives. Refusals 9 and 10. */
 telfjost_set_answer telfjost_from_meta(telfjost_set set, bool present, const uint8_t *text,
                                        size_t text_len);
 

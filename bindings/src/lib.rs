@@ -5,7 +5,8 @@
 //! no `unsafe`.
 //!
 //! A [`Line`] is built token by token, or a [`Lent`] made of three slices that are there
-//! already; a [`Set`] of substitutions is a value. Every call that the reader turns away is a [`Refusal`], with document 01's number.
+//! already; a [`Set`] of substitutions is a value. Every call that the reader turns away is a
+//! [`Refusal`], with its number. docs/RULES.md tells the rules of reading.
 //!
 //! ```
 //! use telfjost::{Kind, Line};

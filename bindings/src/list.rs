@@ -42,7 +42,7 @@ pub enum Row {
     },
 }
 
-/// What a diagnostic says: document 01's four.
+/// What a diagnostic says: the four of docs/RULES.md.
 #[derive(Debug, Clone, Copy, PartialEq, Eq, Hash)]
 pub enum Diagnostic {
     /// 1
@@ -63,7 +63,7 @@ impl Diagnostic {
         (Diagnostic::SecondId, "More than one id attribute"),
     ];
 
-    /// Document 01's number.
+    /// Its number, 1 to 4.
     pub fn number(self) -> usize {
         self as usize + 1
     }
@@ -187,7 +187,7 @@ pub enum Entry {
     Block,
     /// The list of a block macro: no shorthand; the last token closes.
     BlockMacro,
-    /// The list of an inline macro: no shorthand; closed as document 01 says for inline.
+    /// The list of an inline macro: no shorthand; closed as docs/RULES.md says for inline.
     InlineMacro,
     /// What stands in a link macro's brackets: a list, or text, which is one positional row.
     LinkMacro,

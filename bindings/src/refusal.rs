@@ -1,6 +1,6 @@
 use std::fmt;
 
-/// Why a call was turned away: document 01's table, by its numbers.
+/// Why a call was turned away: the table of docs/RULES.md, by its numbers.
 ///
 /// The checks run downward; the first that applies is the one returned.
 #[derive(Debug, Clone, Copy, PartialEq, Eq, Hash)]
@@ -33,7 +33,7 @@ pub enum Refusal {
     Other(usize),
 }
 
-/// Where it is checked, and exactly when it applies: the words of document 01.
+/// Where it is checked, and exactly when it applies: the words of docs/RULES.md.
 const WORDS: [(Refusal, &str, &str); 11] = [
     (Refusal::NoTokens, "line", "no tokens"),
     (Refusal::TooManyTokens, "line", "over 4,096 tokens"),
@@ -49,7 +49,7 @@ const WORDS: [(Refusal, &str, &str); 11] = [
 ];
 
 impl Refusal {
-    /// Document 01's number.
+    /// Its number in the table of docs/RULES.md.
     ///
     /// ```
     /// assert_eq!(telfjost::Refusal::NoClosingBracket.number(), 8);

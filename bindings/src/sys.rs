@@ -4,7 +4,7 @@
 //! `&mut` slice, so that nothing else that is lent overlaps it; the library keeps no pointer.
 #![allow(unsafe_code)]
 
-use crate::{Entry, Lent, Set};
+use crate::{Entry, Lent, Set, Sub};
 
 #[repr(C)]
 pub struct Bool {
@@ -63,6 +63,72 @@ pub fn from_meta_sheet(set: Set, subs: Option<&[u8]>) -> SetAnswer {
     let text = subs.unwrap_or_default();
     // SAFETY: see above.
     unsafe { telfjost_from_meta_sheet(set, subs.is_some(), text.as_ptr(), text.len()) }
+}
+
+macro_rules! moves {
+    ($($name:ident: $called:ident)*) => {
+        #[link(name = "telfjost", kind = "static")]
+        extern "C" {
+            $(fn $called(set: Set, kind: u8) -> SetAnswer;)*
+        }
+        $(pub fn $name(set: Set, kind: Sub) -> SetAnswer {
+            // SAFETY: values alone are handed over.
+            unsafe { $called(set, kind.number()) }
+        })*
+    };
+}
+
+moves! {
+    insert: telfjost_insert
+    remove: telfjost_remove
+    prepend: telfjost_prepend
+    insert_sheet: telfjost_insert_sheet
+    remove_sheet: telfjost_remove_sheet
+    prepend_sheet: telfjost_prepend_sheet
+}
+
+macro_rules! starting_sets {
+    ($($name:ident: $called:ident)*) => {
+        #[link(name = "telfjost", kind = "static")]
+        extern "C" {
+            $(fn $called() -> Set;)*
+        }
+        $(pub fn $name() -> Set {
+            // SAFETY: a value alone is handed over.
+            unsafe { $called() }
+        })*
+    };
+}
+
+starting_sets! {
+    none: telfjost_none
+    normal: telfjost_normal
+    verbatim: telfjost_verbatim
+    attr_value: telfjost_attr_value
+    only_special_chars: telfjost_only_special_chars
+    all: telfjost_all
+}
+
+#[link(name = "telfjost", kind = "static")]
+extern "C" {
+    fn telfjost_set_refusal(set: Set) -> usize;
+    fn telfjost_set_refusal_sheet(set: Set) -> usize;
+    fn telfjost_contains(set: Set, kind: u8) -> bool;
+}
+
+pub fn set_refusal(set: Set) -> usize {
+    // SAFETY: values alone are handed over.
+    unsafe { telfjost_set_refusal(set) }
+}
+
+pub fn set_refusal_sheet(set: Set) -> usize {
+    // SAFETY: values alone are handed over.
+    unsafe { telfjost_set_refusal_sheet(set) }
+}
+
+pub fn contains(set: Set, kind: Sub) -> bool {
+    // SAFETY: values alone are handed over.
+    unsafe { telfjost_contains(set, kind.number()) }
 }
 
 // ---- lists

@@ -1,4 +1,4 @@
-//! The four readings: document 01's "Lines on the bench", the bounds, and the iterators.
+//! The four readings: lines and their rows, the bounds, and the iterators.
 
 use telfjost::{Diagnostic, Entry, Kind, Lent, Line, Reader, Refusal, Row, Run};
 

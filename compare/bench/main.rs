@@ -16,51 +16,21 @@ mod lines;
 mod numbers;
 mod page;
 #[allow(dead_code)]
+#[path = "../src/parser.rs"]
+mod parser;
+#[allow(dead_code)]
 #[path = "../src/rng.rs"]
 mod rng;
 mod rust_side;
+#[path = "../src/sources.rs"]
+mod sources;
 #[allow(dead_code)]
 mod stand_in;
 #[allow(dead_code)]
 #[path = "../src/unreached.rs"]
 mod unreached;
 
-#[allow(dead_code)]
-#[path = "../target/rust/customize_subs.rs"]
-mod customize_subs;
-#[allow(dead_code)]
-#[path = "../target/rust/deq.rs"]
-mod deq;
-#[allow(dead_code)]
-#[path = "../target/rust/line.rs"]
-mod line;
-#[allow(dead_code, private_interfaces)]
-#[path = "../target/rust/parse_attr_list.rs"]
-mod parse_attr_list;
-#[allow(dead_code)]
-#[path = "../target/rust/substitutions.rs"]
-mod substitutions;
-#[allow(dead_code)]
-#[path = "../target/rust/token.rs"]
-mod token;
-
-/// The names under which the sources import each other and what stands in for the rest.
-#[allow(unused_imports)]
-mod internal {
-    pub use crate::deq::*;
-    pub use crate::line::*;
-    pub use crate::stand_in::*;
-    pub use crate::substitutions::*;
-    pub use crate::token::TokenSpec::*;
-    pub use crate::token::*;
-}
-
-mod variants {
-    pub mod token {
-        pub use crate::token::TokenKind::*;
-    }
-}
-
+use sources::*;
 pub use unreached::CellContentStyle;
 
 use std::hint::black_box;
@@ -70,7 +40,7 @@ use std::time::{Duration, Instant};
 use library::Library;
 use lines::LineBuf;
 use page::Measured;
-use rust_side::{ENTRIES, Entry, Lent, NORMAL};
+use rust_side::{ENTRIES, Entry, Lent, Mode, NORMAL};
 use stand_in::Bump;
 
 /// Document 01's widths.
@@ -234,8 +204,8 @@ impl Bench {
 
     /// A subs text, or no subs attribute, on the normal set; the Rust has no sheet mode, and stands
     /// beside it as it is.
-    fn subs(&mut self, sheet: bool, name: &'static str, subs: Option<&str>) -> Option<Measured> {
-        if !self.library.has_from_meta(sheet) {
+    fn subs(&mut self, mode: Mode, name: &'static str, subs: Option<&str>) -> Option<Measured> {
+        if !self.library.has_from_meta(mode) {
             return None;
         }
         let text = subs.unwrap_or("");
@@ -245,7 +215,7 @@ impl Bench {
             let start = Instant::now();
             for _ in 0..many {
                 let bytes = black_box(text.as_bytes());
-                black_box(library.from_meta(sheet, black_box(NORMAL), black_box(subs.is_some()), bytes));
+                black_box(library.from_meta(mode, black_box(NORMAL), black_box(subs.is_some()), bytes));
             }
             start.elapsed()
         };
@@ -331,10 +301,11 @@ fn main() -> ExitCode {
         ("120 parts", Some(many_parts.as_str())),
         ("the longest text", Some(longest.as_str())),
     ];
-    for (sheet, name) in
-        [(false, "from_meta, port mode"), (true, "from_meta, sheet mode (beside the Rust's only mode)")]
-    {
-        let table = texts.iter().filter_map(|(what, subs)| bench.subs(sheet, what, *subs)).collect();
+    for (mode, name) in [
+        (Mode::Port, "from_meta, port mode"),
+        (Mode::Sheet, "from_meta, sheet mode (beside the Rust's only mode)"),
+    ] {
+        let table = texts.iter().filter_map(|(what, subs)| bench.subs(mode, what, *subs)).collect();
         tables.push((name, "byte", table));
     }
     tables.retain(|(_, _, table): &(_, _, Vec<Measured>)| !table.is_empty());

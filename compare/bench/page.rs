@@ -72,7 +72,11 @@ fn rows(table: &[Measured]) -> Vec<[String; 7]> {
         .map(|m| {
             [
                 m.what.to_string(),
-                if m.size == 0 { "0".into() } else { number(m.size as f64).trim_end_matches(".0").to_string() },
+                if m.size == 0 {
+                    "0".into()
+                } else {
+                    number(m.size as f64).trim_end_matches(".0").to_string()
+                },
                 number(m.ours),
                 shown(m.theirs),
                 shown((m.size > 0).then(|| m.each())),

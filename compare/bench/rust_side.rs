@@ -3,7 +3,8 @@
 use crate::customize_subs;
 use crate::deq::Deq;
 use crate::line::Line;
-use crate::stand_in::{AttrList, Bump, BumpString, MultiAttrList, Parser, SourceLocation};
+use crate::parser::{Parser, SourceLocation};
+use crate::stand_in::{AttrList, Bump, BumpString, MultiAttrList};
 use crate::token::Token;
 
 pub use crate::numbers::*;
@@ -13,10 +14,9 @@ pub fn line_of<'b>(lent: Lent<'_>, bump: &'b Bump) -> Line<'b> {
     let mut tokens = Deq::with_capacity(lent.kinds.len(), bump);
     for (place, kind) in lent.kinds.iter().enumerate() {
         let lexeme = std::str::from_utf8(lent.lexeme(place)).expect("a lexeme of the benchmark is UTF-8");
-        let place = place as u32;
         tokens.push(Token::new(
             KINDS[*kind as usize],
-            SourceLocation::new(place + 1, place + 2, 0),
+            SourceLocation::of_token(place),
             BumpString::from_str_in(lexeme, bump),
         ));
     }

@@ -8,54 +8,9 @@ pub use bumpalo::Bump;
 pub use bumpalo::collections::{String as BumpString, Vec as BumpVec};
 
 use crate::deq::Deq;
-use crate::line::Line;
-use crate::substitutions::Substitutions;
-use crate::token::{Token, TokenSpec};
-
-pub type Result<T> = std::result::Result<T, ()>;
-
-pub use crate::unreached::*;
-
-#[derive(Debug, Clone, Copy, PartialEq, Eq, Default)]
-pub struct SourceLocation {
-    pub start: u32,
-    pub end: u32,
-    pub include_depth: u16,
-}
-
-impl SourceLocation {
-    pub const fn new(start: u32, end: u32, include_depth: u16) -> Self {
-        SourceLocation { start, end, include_depth }
-    }
-
-    pub fn spanning(first: Self, last: Self) -> Self {
-        Self::new(first.start, last.end, first.include_depth)
-    }
-
-    pub fn extend(&mut self, other: Self) {
-        self.end = other.end;
-    }
-
-    pub fn decr_start(&self) -> Self {
-        Self::new(self.start - 1, self.end, self.include_depth)
-    }
-
-    pub fn incr_end(&self) -> Self {
-        Self::new(self.start, self.end + 1, self.include_depth)
-    }
-
-    pub fn clamp_start(&self) -> Self {
-        Self::new(self.start, self.start, self.include_depth)
-    }
-}
-
-pub struct MultiSourceLocation;
-
-impl MultiSourceLocation {
-    pub fn coalesce(self) -> Option<SourceLocation> {
-        missing("MultiSourceLocation::coalesce")
-    }
-}
+use crate::parser::{ContiguousLines, Inline, MultiSourceLocation, Parser, Result, SourceLocation};
+use crate::token::Token;
+use crate::unreached::missing;
 
 #[derive(Debug, Clone, PartialEq, Eq)]
 pub struct SourceString<'b> {
@@ -78,10 +33,6 @@ impl<'b> SourceString<'b> {
 pub struct InlineNodes<'b>(PhantomData<&'b ()>);
 
 pub struct InlineNode<'b>(PhantomData<&'b ()>);
-
-pub enum Inline<'b> {
-    Text(BumpString<'b>),
-}
 
 impl<'b> InlineNode<'b> {
     pub fn new(_: Inline<'b>, _: SourceLocation) -> Self {
@@ -150,51 +101,7 @@ impl MultiAttrList<'_> {
     }
 }
 
-#[derive(Debug, Clone, Copy, PartialEq, Eq)]
-pub enum InlineCtx {
-    None,
-    LinkMacroAttrs,
-}
-
-impl InlineCtx {
-    pub fn specs(&self) -> Option<&'static [TokenSpec]> {
-        missing("InlineCtx::specs")
-    }
-}
-
-pub struct ParseContext {
-    pub subs: Substitutions,
-    pub inline_ctx: InlineCtx,
-}
-
-pub struct Lexer;
-
-impl Lexer {
-    pub fn is_builtin_macro_name(_: &[u8]) -> bool {
-        missing("Lexer::is_builtin_macro_name")
-    }
-
-    pub fn src_string_from_loc<'b>(&self, _: SourceLocation) -> SourceString<'b> {
-        missing("Lexer::src_string_from_loc")
-    }
-}
-
-pub struct Parser<'b> {
-    pub bump: &'b Bump,
-    pub ctx: ParseContext,
-    pub lexer: Lexer,
-}
-
 impl<'b> Parser<'b> {
-    pub fn new(bump: &'b Bump) -> Self {
-        let ctx = ParseContext { subs: Substitutions::normal(), inline_ctx: InlineCtx::None };
-        Parser { bump, ctx, lexer: Lexer }
-    }
-
-    pub fn string(&self, s: &str) -> BumpString<'b> {
-        BumpString::from_str_in(s, self.bump)
-    }
-
     pub fn err_at(&self, _: &str, _: SourceLocation) -> Result<()> {
         Ok(())
     }
@@ -209,22 +116,5 @@ impl<'b> Parser<'b> {
 
     pub fn parse_inlines(&mut self, _: &mut ContiguousLines<'b>) -> Result<InlineNodes<'b>> {
         Ok(InlineNodes(PhantomData))
-    }
-}
-
-pub struct ContiguousLines<'b> {
-    #[allow(dead_code)]
-    lines: Deq<'b, Line<'b>>,
-}
-
-impl<'b> ContiguousLines<'b> {
-    pub fn new(lines: Deq<'b, Line<'b>>) -> Self {
-        ContiguousLines { lines }
-    }
-}
-
-impl<'b> crate::deq::DefaultIn<'b> for Line<'b> {
-    fn default_in(bump: &'b Bump) -> Self {
-        Line::empty(bump)
     }
 }

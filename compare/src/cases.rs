@@ -3,9 +3,9 @@
 
 use crate::check::{Checked, SUBS_NAMES, Worker};
 use crate::lines::{HALVES, LineBuf, TELLING, Tok, any_kinds_line, random_line, spoil_utf8};
-use crate::model::{self, MOST_BYTES, MOST_TOKENS, Mode, ROW};
+use crate::model::{self, MOST_BYTES, MOST_TOKENS, ROW};
 use crate::rng::Rng;
-use crate::rust_side::{ENTRIES, Entry, MOVES, NO_SUBS, NORMAL, Set};
+use crate::rust_side::{ENTRIES, Entry, MODES, MOVES, Mode, NO_SUBS, NORMAL, Set};
 use crate::token::TokenKind::*;
 
 /// A piece of work of one class.
@@ -472,8 +472,6 @@ fn block_tests(seed: u64, share: usize) -> Vec<Piece> {
 
 // ---- sets and texts
 
-const MODES: [Mode; 2] = [Mode::Port, Mode::Sheet];
-
 /// Every single part worth a look.
 fn parts() -> Vec<Vec<u8>> {
     let mut names: Vec<String> = SUBS_NAMES.iter().map(|n| n.to_string()).collect();
@@ -554,11 +552,11 @@ fn sets(seed: u64, share: usize) -> Vec<Piece> {
     let mut pieces = Vec::new();
     for mode in MODES {
         let all = held.clone();
-        pieces.push(piece("every held set, every kind, every move", move |worker| {
+        pieces.push(piece("every held set, every kind, every move, by its text", move |worker| {
             for set in all.iter() {
                 for step in MOVES {
                     for kind in 1..=7 {
-                        worker.set_move(mode, *set, step, kind)?;
+                        worker.move_by_text(mode, *set, step, kind)?;
                     }
                 }
             }
@@ -653,11 +651,111 @@ fn sets(seed: u64, share: usize) -> Vec<Piece> {
     pieces
 }
 
+// ---- moves, refusals, starting sets and flags, each by its own function
+
+/// Every move with a kind, and whether the set is refused.
+fn moves_of(worker: &mut Worker<'_>, mode: Mode, set: Set, kind: u8) -> Checked {
+    for step in MOVES {
+        worker.set_move(mode, set, step, kind)?;
+    }
+    worker.set_refusal(mode, set)
+}
+
+/// Numbers for a kind: those that name one and those next to them or at the end.
+const KIND_NUMBERS: [u8; 12] = [1, 2, 3, 4, 5, 6, 7, 0, 8, 9, 128, 255];
+
+fn moves(seed: u64, share: usize) -> Vec<Piece> {
+    let held = std::sync::Arc::new(model::held_sets());
+    let mut pieces = vec![piece("the starting sets", |worker| worker.starts())];
+    pieces.push(piece("every flag byte, every number for a kind", |worker| {
+        for flags in 0..=255 {
+            for kind in 0..=255 {
+                for set in [NO_SUBS, NORMAL, Set { places: [255; 7], flags: 0 }] {
+                    worker.contains(Set { flags, ..set }, kind)?;
+                }
+            }
+        }
+        Ok(())
+    }));
+    for mode in MODES {
+        let all = held.clone();
+        pieces.push(piece("every held set, every number for a kind, every move", move |worker| {
+            for set in all.iter() {
+                for kind in 0..=255 {
+                    for step in MOVES {
+                        worker.set_move(mode, *set, step, kind)?;
+                    }
+                }
+                worker.set_refusal(mode, *set)?;
+            }
+            Ok(())
+        }));
+        let all = held.clone();
+        pieces.push(piece("every order, every flag byte, every move", move |worker| {
+            let orders = all.iter().filter(|set| model::sound(**set));
+            for (turn, set) in orders.enumerate() {
+                for flags in 0..=255 {
+                    let kind = KIND_NUMBERS[(turn + flags as usize) % KIND_NUMBERS.len()];
+                    moves_of(worker, mode, Set { flags, ..*set }, kind)?;
+                }
+            }
+            Ok(())
+        }));
+        let all = held.clone();
+        pieces.push(piece("sets one place away from a held set, every move", move |worker| {
+            let mut turn = 0;
+            for set in all.iter() {
+                for place in 0..7 {
+                    for other in [0, 1, 2, 3, 4, 5, 6, 7, 8, 128, 255] {
+                        let mut near = *set;
+                        near.places[place] = other;
+                        turn += 1;
+                        moves_of(worker, mode, near, KIND_NUMBERS[turn % KIND_NUMBERS.len()])?;
+                    }
+                }
+            }
+            Ok(())
+        }));
+        pieces.push(piece("two places of any number, every flag byte, every move", move |worker| {
+            for first in 0..=9 {
+                for second in 0..=9 {
+                    for flags in 0..=255 {
+                        let set = Set { places: [first, second, 0, 0, 0, 0, 0], flags };
+                        for kind in KIND_NUMBERS {
+                            moves_of(worker, mode, set, kind)?;
+                        }
+                    }
+                }
+            }
+            Ok(())
+        }));
+        for part in 0..share as u64 {
+            let seed = seed.wrapping_add(12 + (part << 8));
+            pieces.push(piece("random sets, every move", move |worker| {
+                let mut rng = Rng::new(seed);
+                for _ in 0..100_000 {
+                    let mut set = NO_SUBS;
+                    let numbers = if rng.one_in(4) { 256 } else { 9 };
+                    for kind in &mut set.places[..rng.below(8)] {
+                        *kind = rng.below(numbers) as u8;
+                    }
+                    set.flags = rng.next() as u8;
+                    moves_of(worker, mode, set, rng.next() as u8 % 10)?;
+                    worker.contains(set, rng.next() as u8 % 10)?;
+                }
+                Ok(())
+            }));
+        }
+    }
+    pieces
+}
+
 // ---- all of it
 
 /// What the gate runs, the short cases first.
 pub fn gate(seed: u64) -> Vec<Piece> {
     let mut pieces = block_tests(seed, 8);
+    pieces.extend(moves(seed, 2));
     pieces.extend(sets(seed, 2));
     pieces.extend(exhaustive_lists(0));
     pieces.extend(damaged(seed, 8));
@@ -676,8 +774,7 @@ pub fn fresh(seed: u64) -> Vec<Piece> {
     let mut pieces = random_lists(seed, 4);
     pieces.extend(damaged(seed, 4));
     pieces.extend(block_tests(seed, 1).into_iter().filter(|p| p.class.ends_with("random lines")));
-    pieces.extend(
-        sets(seed, 2).into_iter().filter(|p| p.class.starts_with("random") || p.class.starts_with("long")),
-    );
+    let of_sets = sets(seed, 2).into_iter().chain(moves(seed, 2));
+    pieces.extend(of_sets.filter(|p| p.class.starts_with("random") || p.class.starts_with("long")));
     pieces
 }

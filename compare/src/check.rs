@@ -4,8 +4,8 @@ use std::collections::BTreeMap;
 use std::fmt::Write as _;
 
 use crate::library::{Bool, Library, List, SetAnswer};
-use crate::model::{self, Mode, ROW};
-use crate::rust_side::{self, Entry, KINDS, Lent, Outcome, Set};
+use crate::model::{self, ROW};
+use crate::rust_side::{self, Entry, KINDS, Lent, Mode, Move, Outcome, STARTS, Set};
 use crate::stand_in::Row;
 
 /// Numbers before and behind the row buffer that no call may touch.
@@ -18,10 +18,22 @@ pub struct Tally {
     pub refusals: [u64; 12],
     pub tags: [u64; 9],
     pub diagnostics: [u64; 5],
+    /// Moves by what they did: see `MOVED`.
+    pub moves: [u64; 6],
     pub yes: u64,
     pub other_closing: u64,
     pub panics: BTreeMap<String, u64>,
 }
+
+/// What a move did, in the order of `Tally::moves`.
+pub const MOVED: [&str; 6] = [
+    "another order",
+    "another flag alone",
+    "nothing: the set is so already",
+    "nothing: the number names no kind",
+    "refused with 10",
+    "refused with 11",
+];
 
 impl Tally {
     pub fn add(&mut self, other: &Tally) {
@@ -35,6 +47,7 @@ impl Tally {
             (&mut self.refusals[..], &other.refusals[..]),
             (&mut self.tags[..], &other.tags[..]),
             (&mut self.diagnostics[..], &other.diagnostics[..]),
+            (&mut self.moves[..], &other.moves[..]),
         ];
         for (mine, theirs) in pairs {
             for (a, b) in mine.iter_mut().zip(theirs) {
@@ -187,7 +200,7 @@ impl<'l> Worker<'l> {
     /// along, which nothing may look at.
     pub fn subs(&mut self, mode: Mode, set: Set, text: Option<&[u8]>, lent: &[u8]) -> Checked {
         let bytes = text.unwrap_or(lent);
-        let Some(given) = self.library.from_meta(mode == Mode::Sheet, set, text.is_some(), bytes) else {
+        let Some(given) = self.library.from_meta(mode, set, text.is_some(), bytes) else {
             return Ok(());
         };
         let expected = expected_set(mode, set, text);
@@ -198,13 +211,13 @@ impl<'l> Worker<'l> {
         Err(Box::new(describe_set(mode, set, text, expected, given)))
     }
 
-    /// A move, reached by the text that names it.
-    pub fn set_move(&mut self, mode: Mode, set: Set, step: rust_side::Move, kind: u8) -> Checked {
+    /// A move with a kind of 1 to 7, reached by the text that names it.
+    pub fn move_by_text(&mut self, mode: Mode, set: Set, step: Move, kind: u8) -> Checked {
         let name = SUBS_NAMES[kind as usize - 1];
         let text = match step {
-            rust_side::Move::Insert => format!("+{name}"),
-            rust_side::Move::Remove => format!("-{name}"),
-            rust_side::Move::Prepend => format!("{name}+"),
+            Move::Insert => format!("+{name}"),
+            Move::Remove => format!("-{name}"),
+            Move::Prepend => format!("{name}+"),
         };
         if mode == Mode::Port {
             let moved = rust_side::set_move(set, step, kind);
@@ -214,6 +227,84 @@ impl<'l> Worker<'l> {
         }
         self.subs(mode, set, Some(text.as_bytes()), b"")
     }
+
+    /// A move itself, with any number for a kind and any set.
+    pub fn set_move(&mut self, mode: Mode, set: Set, step: Move, kind: u8) -> Checked {
+        let Some(given) = self.library.set_move(mode, set, step, kind) else {
+            return Ok(());
+        };
+        let expected = expected_move(mode, set, step, kind);
+        self.count(expected.refusal);
+        let did = match expected.refusal {
+            10 => 4,
+            11 => 5,
+            _ if !(1..=7).contains(&kind) => 3,
+            _ if expected.set.places != set.places => 0,
+            _ => 2 - usize::from(expected.set.flags != set.flags),
+        };
+        self.tally.moves[did] += 1;
+        if given == expected {
+            return Ok(());
+        }
+        Err(Box::new(format!(
+            "{step:?} of kind {kind}, {mode:?} mode\nset:   {set:?}\ndue:   {expected:?}\ngiven: {given:?}\n"
+        )))
+    }
+
+    /// Whether a set is held, and whether it is sound.
+    pub fn set_refusal(&mut self, mode: Mode, set: Set) -> Checked {
+        let Some(given) = self.library.set_refusal(mode, set) else { return Ok(()) };
+        let expected = model::set_refusal(mode, set);
+        self.count(expected);
+        if given == expected {
+            return Ok(());
+        }
+        Err(Box::new(format!("refusal of {set:?}, {mode:?} mode\ndue:   {expected}\ngiven: {given}\n")))
+    }
+
+    /// Each starting set is the Rust's.
+    pub fn starts(&mut self) -> Checked {
+        for (which, (name, start)) in STARTS.iter().enumerate() {
+            let Some(given) = self.library.start(which) else { continue };
+            let expected = rust_side::of_rust(start());
+            self.count(0);
+            if given != expected {
+                return Err(Box::new(format!("{name}\ndue:   {expected:?}\ngiven: {given:?}\n")));
+            }
+        }
+        Ok(())
+    }
+
+    /// The test of a flag, with any number for a kind and any set: the Rust looks at the flags
+    /// alone, and no flag is that of a number which names no kind.
+    pub fn contains(&mut self, set: Set, kind: u8) -> Checked {
+        let Some(given) = self.library.contains(set, kind) else { return Ok(()) };
+        let [expected, by_its_name] =
+            if (1..=7).contains(&kind) { rust_side::contains(set.flags, kind) } else { [false; 2] };
+        if expected != by_its_name {
+            return Err(Box::new(format!("the Rust's two tests of kind {kind} differ on {set:?}\n")));
+        }
+        self.count(0);
+        if given == u8::from(expected) {
+            return Ok(());
+        }
+        Err(Box::new(format!("{set:?} contains kind {kind}\ndue:   {expected}\ngiven: {given}\n")))
+    }
+}
+
+/// What a move must answer: the Rust's move in port mode, the model's in sheet mode. A number
+/// that names no kind is passed over.
+pub fn expected_move(mode: Mode, set: Set, step: Move, kind: u8) -> SetAnswer {
+    let refusal = model::set_refusal(mode, set);
+    if refusal != 0 || !(1..=7).contains(&kind) {
+        return SetAnswer { refusal, set };
+    }
+    let set = match mode {
+        Mode::Sheet => model::sheet_move(set, step, kind),
+        Mode::Port => rust_side::set_move(set, step, kind)
+            .unwrap_or_else(|| panic!("the Rust's {step:?} of {kind} panicked on {set:?}")),
+    };
+    SetAnswer { refusal: 0, set }
 }
 
 pub const SUBS_NAMES: [&str; 7] =

@@ -1,7 +1,7 @@
 //! The functions of the static library, as `include/telfjost.h` declares them. Which of them
 //! exist is said by `exports.txt`, which the build turns into `--cfg export="NAME"`.
 
-use crate::rust_side::{Entry, Lent, Set};
+use crate::numbers::{Entry, Lent, Mode, Move, Set};
 
 #[derive(Debug, Clone, Copy, PartialEq, Eq)]
 #[repr(C)]
@@ -29,6 +29,11 @@ type ListFn =
     unsafe extern "C" fn(*const u8, usize, *const u8, usize, *const u32, usize, *mut u32, usize) -> List;
 type BoolFn = unsafe extern "C" fn(*const u8, usize, *const u8, usize, *const u32, usize) -> Bool;
 type SubsFn = unsafe extern "C" fn(Set, bool, *const u8, usize) -> SetAnswer;
+type MoveFn = unsafe extern "C" fn(Set, u8) -> SetAnswer;
+type RefusalFn = unsafe extern "C" fn(Set) -> usize;
+type StartFn = unsafe extern "C" fn() -> Set;
+/// The answer is a bool of C; as a number it can be told from anything that is not 0 or 1.
+type ContainsFn = unsafe extern "C" fn(Set, u8) -> u8;
 
 /// An export, if it is listed.
 macro_rules! export {
@@ -49,11 +54,16 @@ macro_rules! export {
     }};
 }
 
+/// Where there are two of a kind, port mode stands first and sheet mode second.
+#[derive(Default)]
 pub struct Library {
     lists: [Option<ListFn>; 4],
     is_block_attr_list: Option<BoolFn>,
-    from_meta: Option<SubsFn>,
-    from_meta_sheet: Option<SubsFn>,
+    from_meta: [Option<SubsFn>; 2],
+    moves: [[Option<MoveFn>; 3]; 2],
+    set_refusal: [Option<RefusalFn>; 2],
+    starts: [Option<StartFn>; 6],
+    contains: Option<ContainsFn>,
 }
 
 impl Library {
@@ -66,14 +76,36 @@ impl Library {
                 export!("telfjost_link_macro_attr_list", f: ListFn),
             ],
             is_block_attr_list: export!("telfjost_is_block_attr_list", f: BoolFn),
-            from_meta: export!("telfjost_from_meta", f: SubsFn),
-            from_meta_sheet: export!("telfjost_from_meta_sheet", f: SubsFn),
+            from_meta: [
+                export!("telfjost_from_meta", f: SubsFn),
+                export!("telfjost_from_meta_sheet", f: SubsFn),
+            ],
+            moves: [
+                [
+                    export!("telfjost_insert", f: MoveFn),
+                    export!("telfjost_remove", f: MoveFn),
+                    export!("telfjost_prepend", f: MoveFn),
+                ],
+                [
+                    export!("telfjost_insert_sheet", f: MoveFn),
+                    export!("telfjost_remove_sheet", f: MoveFn),
+                    export!("telfjost_prepend_sheet", f: MoveFn),
+                ],
+            ],
+            set_refusal: [
+                export!("telfjost_set_refusal", f: RefusalFn),
+                export!("telfjost_set_refusal_sheet", f: RefusalFn),
+            ],
+            starts: [
+                export!("telfjost_none", f: StartFn),
+                export!("telfjost_normal", f: StartFn),
+                export!("telfjost_verbatim", f: StartFn),
+                export!("telfjost_attr_value", f: StartFn),
+                export!("telfjost_only_special_chars", f: StartFn),
+                export!("telfjost_all", f: StartFn),
+            ],
+            contains: export!("telfjost_contains", f: ContainsFn),
         }
-    }
-
-    /// A library of nothing.
-    pub fn none() -> Self {
-        Library { lists: [None; 4], is_block_attr_list: None, from_meta: None, from_meta_sheet: None }
     }
 
     /// The functions that `exports.txt` lists.
@@ -85,9 +117,9 @@ impl Library {
             .collect()
     }
 
-    /// The names that the harness knows how to compare; the number of each in a recorded call
-    /// is its place here, counted from 1.
-    pub const KNOWN: [&'static str; 7] = [
+    /// The names that the harness knows how to compare. The number of each of the first seven
+    /// in a recorded call is its place here, counted from 1; the others are not recorded.
+    pub const KNOWN: [&'static str; 22] = [
         "telfjost_block_attr_list",
         "telfjost_block_macro_attr_list",
         "telfjost_inline_macro_attr_list",
@@ -95,13 +127,34 @@ impl Library {
         "telfjost_is_block_attr_list",
         "telfjost_from_meta",
         "telfjost_from_meta_sheet",
+        "telfjost_insert",
+        "telfjost_remove",
+        "telfjost_prepend",
+        "telfjost_insert_sheet",
+        "telfjost_remove_sheet",
+        "telfjost_prepend_sheet",
+        "telfjost_set_refusal",
+        "telfjost_set_refusal_sheet",
+        "telfjost_none",
+        "telfjost_normal",
+        "telfjost_verbatim",
+        "telfjost_attr_value",
+        "telfjost_only_special_chars",
+        "telfjost_all",
+        "telfjost_contains",
     ];
 
     pub fn exports(&self) -> usize {
-        self.lists.iter().filter(|f| f.is_some()).count()
-            + usize::from(self.is_block_attr_list.is_some())
-            + usize::from(self.from_meta.is_some())
-            + usize::from(self.from_meta_sheet.is_some())
+        fn there<T>(functions: &[Option<T>]) -> usize {
+            functions.iter().flatten().count()
+        }
+        there(&self.lists)
+            + there(&[self.is_block_attr_list])
+            + there(&self.from_meta)
+            + there(self.moves.as_flattened())
+            + there(&self.set_refusal)
+            + there(&self.starts)
+            + there(&[self.contains])
     }
 
     pub fn has_list(&self, entry: Entry) -> bool {
@@ -112,8 +165,12 @@ impl Library {
         self.is_block_attr_list.is_some()
     }
 
-    pub fn has_from_meta(&self, sheet: bool) -> bool {
-        if sheet { self.from_meta_sheet.is_some() } else { self.from_meta.is_some() }
+    pub fn has_from_meta(&self, mode: Mode) -> bool {
+        self.from_meta[mode as usize].is_some()
+    }
+
+    pub fn has_moves(&self, mode: Mode) -> bool {
+        self.moves[mode as usize].iter().any(Option::is_some)
     }
 
     /// `null` passes NULL for what has no elements.
@@ -145,10 +202,29 @@ impl Library {
         })
     }
 
-    pub fn from_meta(&self, sheet: bool, set: Set, present: bool, text: &[u8]) -> Option<SetAnswer> {
-        let f = if sheet { self.from_meta_sheet? } else { self.from_meta? };
+    pub fn from_meta(&self, mode: Mode, set: Set, present: bool, text: &[u8]) -> Option<SetAnswer> {
+        let f = self.from_meta[mode as usize]?;
         // SAFETY: as above.
         Some(unsafe { f(set, present, at(text, true), text.len()) })
+    }
+
+    // The functions below take and give values alone, so that every call of them is sound.
+
+    pub fn set_move(&self, mode: Mode, set: Set, step: Move, kind: u8) -> Option<SetAnswer> {
+        self.moves[mode as usize][step as usize].map(|f| unsafe { f(set, kind) })
+    }
+
+    pub fn set_refusal(&self, mode: Mode, set: Set) -> Option<usize> {
+        self.set_refusal[mode as usize].map(|f| unsafe { f(set) })
+    }
+
+    /// A starting set, by its place among `STARTS`.
+    pub fn start(&self, which: usize) -> Option<Set> {
+        self.starts[which].map(|f| unsafe { f() })
+    }
+
+    pub fn contains(&self, set: Set, kind: u8) -> Option<u8> {
+        self.contains.map(|f| unsafe { f(set, kind) })
     }
 }
 

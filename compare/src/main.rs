@@ -7,55 +7,26 @@ extern crate self as ast;
 
 mod cases;
 mod check;
+mod differences;
+mod explained;
 mod library;
 mod lines;
 mod model;
 mod numbers;
+#[allow(dead_code)]
+mod parser;
 mod record;
 mod rng;
 mod rust_side;
 mod self_test;
+mod sources;
 #[allow(dead_code)]
 mod stand_in;
 #[allow(dead_code)]
 mod unreached;
+mod words;
 
-#[allow(dead_code)]
-#[path = "../target/rust/customize_subs.rs"]
-mod customize_subs;
-#[allow(dead_code)]
-#[path = "../target/rust/deq.rs"]
-mod deq;
-#[allow(dead_code)]
-#[path = "../target/rust/line.rs"]
-mod line;
-#[allow(dead_code, private_interfaces)]
-#[path = "../target/rust/parse_attr_list.rs"]
-mod parse_attr_list;
-#[allow(dead_code)]
-#[path = "../target/rust/substitutions.rs"]
-mod substitutions;
-#[allow(dead_code)]
-#[path = "../target/rust/token.rs"]
-mod token;
-
-/// The names under which the sources import each other and what stands in for the rest.
-#[allow(unused_imports)]
-mod internal {
-    pub use crate::deq::*;
-    pub use crate::line::*;
-    pub use crate::stand_in::*;
-    pub use crate::substitutions::*;
-    pub use crate::token::TokenSpec::*;
-    pub use crate::token::*;
-}
-
-mod variants {
-    pub mod token {
-        pub use crate::token::TokenKind::*;
-    }
-}
-
+use sources::*;
 pub use unreached::CellContentStyle;
 
 use std::process::ExitCode;
@@ -64,8 +35,9 @@ use std::sync::atomic::{AtomicUsize, Ordering};
 use std::time::{Duration, Instant, SystemTime};
 
 use cases::Piece;
-use check::{Tally, Worker};
+use check::{MOVED, Tally, Worker};
 use library::Library;
+use numbers::{MODES, Mode};
 
 const SEED: u64 = 0x7e1f_1057;
 const THREADS: usize = 2;
@@ -141,6 +113,11 @@ fn report(tally: &Tally, seconds: f64) {
             println!("{what}: {}", numbered(counts));
         }
     }
+    let did: Vec<String> =
+        MOVED.iter().zip(tally.moves).map(|(did, n)| format!("{did} {}", grouped(n))).collect();
+    if tally.moves.iter().any(|n| *n > 0) {
+        println!("moves by what they did: {}", did.join("; "));
+    }
     let counted = [
         ("is_block_attr_list said yes", tally.yes),
         ("link text closed by another token, which the Rust takes and 8 is due", tally.other_closing),
@@ -159,13 +136,14 @@ fn report(tally: &Tally, seconds: f64) {
 fn telling(library: &Library, tally: &Tally) -> bool {
     let mut missing = Vec::new();
     let lists = rust_side::ENTRIES.iter().any(|e| library.has_list(*e));
-    let sheet = library.has_from_meta(true);
+    let of_sets = |mode| library.has_from_meta(mode) || library.has_moves(mode);
     let due = |n: usize| match n {
         0 => true,
         1..=6 => lists || library.has_is_block_attr_list(),
         7 | 8 => lists,
-        9 | 10 => library.has_from_meta(false) || sheet,
-        _ => sheet,
+        9 => MODES.iter().any(|mode| library.has_from_meta(*mode)),
+        10 => MODES.iter().any(|mode| of_sets(*mode)),
+        _ => of_sets(Mode::Sheet),
     };
     for (number, count) in tally.refusals.iter().enumerate() {
         if due(number) && *count < 10 {
@@ -176,6 +154,14 @@ fn telling(library: &Library, tally: &Tally) -> bool {
         missing.extend((1..9).filter(|tag| tally.tags[*tag] < 1000).map(|tag| format!("tag {tag}")));
         missing.extend((1..5).filter(|d| tally.diagnostics[*d] < 1000).map(|d| format!("diagnostic {d}")));
     }
+    let moved = MODES.iter().all(|mode| library.has_moves(*mode));
+    missing.extend(
+        MOVED
+            .iter()
+            .zip(tally.moves)
+            .filter(|(_, count)| moved && *count < 1000)
+            .map(|(did, _)| format!("a move: {did}")),
+    );
     if !missing.is_empty() {
         println!("too few answers of these kinds were met: {}", missing.join(", "));
     }
@@ -189,7 +175,11 @@ fn usage() -> ExitCode {
        compare --record                   makes the recorded answers anew
        compare --minutes N [--seed S]     the comparison, longer, then fresh random cases until N minutes are over
        compare --line ENTRY TEXT          what the Rust gives for a line (block, macro, inline, link; is: whether
-                                          the line, opening bracket and all, is a block attribute list)"
+                                          the line, opening bracket and all, is a block attribute list)
+       compare --lines ENTRY              the same for each line of the standard input, in words
+       compare --our-side                 differences.txt with the sides of the Rust and of this reader made anew
+       compare --page                     whether every table of docs/DIFFERENCES.md is as differences.txt records
+       compare --texts                    the subs texts by which the differences are explained"
     );
     ExitCode::from(2)
 }
@@ -216,6 +206,10 @@ fn main() -> ExitCode {
                 at += 1;
             }
             ("--line", Some(entry)) if args.len() == at + 3 => return show_line(entry, &args[at + 2]),
+            ("--lines", Some(entry)) if args.len() == at + 2 => return show_lines(entry),
+            ("--texts", None) => return show_texts(),
+            ("--our-side", None) => return show_our_side(),
+            ("--page", None) => return show_page(),
             _ => return usage(),
         }
         at += 1;
@@ -273,54 +267,87 @@ fn main() -> ExitCode {
     if !telling(&library, &tally) {
         return ExitCode::FAILURE;
     }
+    match differences::check(&library) {
+        Ok(words) => println!("docs/DIFFERENCES.md: {words}"),
+        Err(words) => {
+            println!("docs/DIFFERENCES.md does not hold: {words}");
+            return ExitCode::FAILURE;
+        }
+    }
     println!("no difference");
     ExitCode::SUCCESS
 }
 
 /// What the Rust gives for a line of plain text.
 fn show_line(entry: &str, text: &str) -> ExitCode {
-    use rust_side::{Entry, Outcome};
     let line = lines::LineBuf::lex(text);
     if line.kinds.is_empty() {
         return usage();
     }
-    let entry = match entry {
-        "is" => {
-            println!("{}", if rust_side::is_block_attr_list(line.lent()) { "yes" } else { "no" });
-            return ExitCode::SUCCESS;
-        }
-        "block" => Entry::Block,
-        "macro" => Entry::BlockMacro,
-        "inline" => Entry::Inline,
-        "link" => Entry::Link,
-        _ => return usage(),
-    };
+    if entry == "is" {
+        println!("{}", if rust_side::is_block_attr_list(line.lent()) { "yes" } else { "no" });
+        return ExitCode::SUCCESS;
+    }
+    let Some(entry) = words::entry_of(entry) else { return usage() };
     let mut rows = Vec::new();
     let outcome = rust_side::read(entry, line.lent(), &mut rows);
     println!("{outcome:?}");
-    if outcome == Outcome::Panicked {
-        return ExitCode::SUCCESS;
-    }
-    let shown = |place: u32, count: u32| -> String {
-        let places = place as usize..(place + count) as usize;
-        let bytes = places
-            .filter(|p| line.kinds[*p] != token::TokenKind::AttrRef as u8)
-            .flat_map(|p| line.lent().lexeme(p).iter().copied())
-            .collect();
-        format!("`{}`", String::from_utf8(bytes).unwrap_or_default())
-    };
-    for row in rows {
-        let words = match row[0] {
-            1 => "positional, empty".to_string(),
-            2 => format!("positional {}", shown(row[1], row[2])),
-            3 => format!("named {} = {}", shown(row[1], row[2]), shown(row[3], row[4])),
-            4 => format!("id {}", shown(row[1], row[2])),
-            5 => format!("role {}", shown(row[1], row[2])),
-            6 => format!("option {}", shown(row[1], row[2])),
-            7 => format!("diagnostic {} at token {}", row[2], row[1]),
-            _ => format!("named, read under none, {} = {}", shown(row[1], row[2]), shown(row[3], row[4])),
-        };
-        println!("  {row:?}  {words}");
+    if outcome != rust_side::Outcome::Panicked {
+        for row in rows {
+            println!("  {row:?}  {}", words::row(&line, row));
+        }
     }
     ExitCode::SUCCESS
+}
+
+/// The Rust's answers in words to the lines of the standard input, each on a line of its own.
+fn show_lines(entry: &str) -> ExitCode {
+    let Some(entry) = words::entry_of(entry) else { return usage() };
+    for text in std::io::stdin().lines().map_while(Result::ok) {
+        let line = lines::LineBuf::lex(&text);
+        println!("{}", if line.kinds.is_empty() { String::new() } else { words::answer(entry, &line) });
+    }
+    ExitCode::SUCCESS
+}
+
+/// The texts of the explanation, each after the letter of the set that it is put on.
+fn show_texts() -> ExitCode {
+    for letter in explained::LETTERS {
+        for text in explained::texts() {
+            println!("{letter} `{text}`");
+        }
+    }
+    ExitCode::SUCCESS
+}
+
+/// The record of differences with our sides made anew.
+fn show_our_side() -> ExitCode {
+    let made = std::fs::read_to_string(differences::RECORD)
+        .map_err(|e| e.to_string())
+        .and_then(|record| differences::our_side(&record, &Library::linked()));
+    match made {
+        Ok(record) => {
+            print!("{record}");
+            ExitCode::SUCCESS
+        }
+        Err(words) => {
+            eprintln!("compare: {}: {words}", differences::RECORD);
+            ExitCode::FAILURE
+        }
+    }
+}
+
+/// Whether the page is as the record says.
+fn show_page() -> ExitCode {
+    let record = std::fs::read_to_string(differences::RECORD).map_err(|e| e.to_string());
+    match record.and_then(|record| differences::check_page(&record)) {
+        Ok((claims, rows)) => {
+            println!("docs/DIFFERENCES.md: {rows} table rows are as recorded, {claims} claims in all");
+            ExitCode::SUCCESS
+        }
+        Err(words) => {
+            println!("docs/DIFFERENCES.md does not hold: {words}");
+            ExitCode::FAILURE
+        }
+    }
 }

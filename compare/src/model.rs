@@ -2,7 +2,7 @@
 //! (refusals 1 to 7 and 9 to 11, which the Rust does not have), and sheet mode, which the Rust
 //! does not have either.
 
-use crate::rust_side::Set;
+use crate::numbers::{Mode, Move, Set};
 
 pub const MOST_TOKENS: usize = 4096;
 pub const MOST_BYTES: usize = 65_535;
@@ -41,12 +41,6 @@ pub fn room_refusal(tokens: usize, numbers: usize) -> usize {
     if numbers < ROW * tokens { 7 } else { 0 }
 }
 
-#[derive(Debug, Clone, Copy, PartialEq, Eq)]
-pub enum Mode {
-    Port,
-    Sheet,
-}
-
 pub fn flag(kind: u8) -> u8 {
     1 << (kind - 1)
 }
@@ -72,17 +66,20 @@ pub fn sound(set: Set) -> bool {
     held(set) && set.flags == placed_flags(set)
 }
 
-/// Checks 9 to 11, or 0. A call without a subs attribute has no subs text.
-pub fn subs_refusal(mode: Mode, set: Set, text: Option<&[u8]>) -> usize {
-    if text.is_some_and(|text| text.len() > MOST_BYTES) {
-        9
-    } else if !held(set) {
+/// Checks 10 and 11, or 0: "refuse with 10, in sheet mode then 11".
+pub fn set_refusal(mode: Mode, set: Set) -> usize {
+    if !held(set) {
         10
     } else if mode == Mode::Sheet && !sound(set) {
         11
     } else {
         0
     }
+}
+
+/// Checks 9 to 11, or 0. A call without a subs attribute has no subs text.
+pub fn subs_refusal(mode: Mode, set: Set, text: Option<&[u8]>) -> usize {
+    if text.is_some_and(|text| text.len() > MOST_BYTES) { 9 } else { set_refusal(mode, set) }
 }
 
 // ---- sheet mode
@@ -96,6 +93,27 @@ fn set_of(kinds: &[u8]) -> Set {
     let mut places = [0; 7];
     places[..kinds.len()].copy_from_slice(kinds);
     Set { places, flags: kinds.iter().fold(0, |flags, kind| flags | flag(*kind)) }
+}
+
+/// "Insert does nothing if the flag is set", else it puts the kind last, also in the seventh
+/// place; "remove closes the gap"; "prepend moves or puts the kind first".
+fn step_in_sheet(kinds: &mut Vec<u8>, step: Move, kind: u8) {
+    match step {
+        Move::Insert if kinds.contains(&kind) => {}
+        Move::Insert => kinds.push(kind),
+        Move::Remove => kinds.retain(|k| *k != kind),
+        Move::Prepend => {
+            kinds.retain(|k| *k != kind);
+            kinds.insert(0, kind);
+        }
+    }
+}
+
+/// A move in sheet mode with a kind of 1 to 7, on a sound set.
+pub fn sheet_move(set: Set, step: Move, kind: u8) -> Set {
+    let mut kinds = kinds_of(set);
+    step_in_sheet(&mut kinds, step, kind);
+    set_of(&kinds)
 }
 
 fn group(name: &[u8]) -> Option<&'static [u8]> {
@@ -126,25 +144,16 @@ pub fn sheet(set: Set, text: Option<&[u8]>) -> Set {
             continue;
         }
         let (step, name) = if let Some(name) = part.strip_prefix(b"+") {
-            ('i', name)
+            (Move::Insert, name)
         } else if let Some(name) = part.strip_suffix(b"+") {
-            ('p', name)
+            (Move::Prepend, name)
         } else if let Some(name) = part.strip_prefix(b"-") {
-            ('r', name)
+            (Move::Remove, name)
         } else {
-            ('i', part)
+            (Move::Insert, part)
         };
         for kind in group(name).unwrap_or(&[]) {
-            let there = kinds.contains(kind);
-            match step {
-                'i' if there => {}
-                'i' => kinds.push(*kind),
-                'r' => kinds.retain(|k| k != kind),
-                _ => {
-                    kinds.retain(|k| k != kind);
-                    kinds.insert(0, *kind);
-                }
-            }
+            step_in_sheet(&mut kinds, step, *kind);
         }
     }
     set_of(&kinds)

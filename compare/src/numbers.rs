@@ -1,5 +1,5 @@
-//! Document 01's numbers and the Rust's names for them: kinds, substitutions, entries, sets, and
-//! a line as it is lent.
+//! Document 01's numbers and the Rust's names for them: kinds, substitutions, entries, sets, their
+//! moves, and a line as it is lent.
 
 use crate::substitutions::{Subs, Substitutions};
 use crate::token::TokenKind;
@@ -107,6 +107,45 @@ pub struct Set {
     pub places: [u8; 7],
     pub flags: u8,
 }
+
+/// Port mode is the Rust's; sheet mode is document 01's own.
+#[derive(Debug, Clone, Copy, PartialEq, Eq)]
+pub enum Mode {
+    Port,
+    Sheet,
+}
+
+pub const MODES: [Mode; 2] = [Mode::Port, Mode::Sheet];
+
+#[derive(Debug, Clone, Copy, PartialEq, Eq)]
+pub enum Move {
+    Insert,
+    Remove,
+    Prepend,
+}
+
+pub const MOVES: [Move; 3] = [Move::Insert, Move::Remove, Move::Prepend];
+
+/// The sets that the Rust starts with.
+pub const STARTS: [(&str, fn() -> Substitutions); 6] = [
+    ("none", Substitutions::none),
+    ("normal", Substitutions::normal),
+    ("verbatim", Substitutions::verbatim),
+    ("attr_value", Substitutions::attr_value),
+    ("only_special_chars", Substitutions::only_special_chars),
+    ("all", Substitutions::all),
+];
+
+/// The Rust's own test of each kind's flag, 1 to 7.
+pub const FLAG_TESTS: [fn(&Substitutions) -> bool; 7] = [
+    Substitutions::special_chars,
+    Substitutions::inline_formatting,
+    Substitutions::attr_refs,
+    Substitutions::char_replacement,
+    Substitutions::macros,
+    Substitutions::post_replacement,
+    Substitutions::callouts,
+];
 
 pub const NORMAL: Set = Set { places: [1, 2, 3, 4, 5, 6, 0], flags: 63 };
 pub const NO_SUBS: Set = Set { places: [0; 7], flags: 0 };

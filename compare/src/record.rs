@@ -7,9 +7,9 @@ use std::fmt::Write as _;
 use crate::check::{Worker, expected_set};
 use crate::library::Library;
 use crate::lines::{LineBuf, any_kinds_line, random_line, spoil_utf8};
-use crate::model::{self, MOST_BYTES, MOST_TOKENS, Mode, ROW};
+use crate::model::{self, MOST_BYTES, MOST_TOKENS, ROW};
 use crate::rng::Rng;
-use crate::rust_side::{self, ENTRIES, Entry, Lent, NORMAL, Set};
+use crate::rust_side::{self, ENTRIES, Entry, Lent, Mode, NORMAL, Set};
 use crate::token::TokenKind;
 
 pub const STDIN: &str = "../crates/replay/stdin";
@@ -48,7 +48,7 @@ impl Recorded {
     fn list(&mut self, entry: Entry, line: Lent<'_>, rust_text: &[u8], numbers: usize) {
         self.line(1 + entry as usize, line);
         let _ = writeln!(self.calls, " {numbers}");
-        let none = Library::none();
+        let none = Library::default();
         let mut worker = Worker::new(&none);
         let answer = worker.expected(entry, line, rust_text, numbers);
         let _ = write!(self.answers, "{} {} {}", answer.refusal, answer.rows, answer.consumed);

@@ -7,7 +7,9 @@ use std::panic::{AssertUnwindSafe, catch_unwind};
 use crate::customize_subs;
 use crate::deq::Deq;
 use crate::line::Line;
-use crate::stand_in::{Bump, BumpString, MultiAttrList, Parser, Row, SourceLocation};
+use crate::parser::{Parser, SourceLocation};
+use crate::stand_in::{Bump, BumpString, MultiAttrList, Row};
+use crate::substitutions::Substitutions;
 use crate::token::{Token, TokenKind};
 
 pub use crate::numbers::*;
@@ -78,15 +80,6 @@ pub fn from_meta(set: Set, text: Option<&str>) -> Option<Set> {
     without_a_word(|| of_rust(customize_subs::from_meta(current, &MultiAttrList { subs: text })))
 }
 
-#[derive(Debug, Clone, Copy, PartialEq, Eq)]
-pub enum Move {
-    Insert,
-    Remove,
-    Prepend,
-}
-
-pub const MOVES: [Move; 3] = [Move::Insert, Move::Remove, Move::Prepend];
-
 /// A move with the kind of number 1 to 7; None if it panicked.
 pub fn set_move(set: Set, step: Move, kind: u8) -> Option<Set> {
     let mut subs = to_rust(set);
@@ -99,6 +92,14 @@ pub fn set_move(set: Set, step: Move, kind: u8) -> Option<Set> {
         }
         of_rust(subs)
     })
+}
+
+/// Is the kind of number 1 to 7 in the set? The Rust looks at the flags alone, and has two ways
+/// to ask.
+pub fn contains(flags: u8, kind: u8) -> [bool; 2] {
+    let subs = Substitutions { order: [None; 7], flags };
+    let at = kind as usize - 1;
+    [subs.contains(SUBS[at]), FLAG_TESTS[at](&subs)]
 }
 
 // ---- panics

@@ -2,14 +2,17 @@
 //! the real `Deq`, the number of held sets, and the harness's own table of refusals. It runs
 //! before every comparison.
 
-use crate::check::expected_set;
+use crate::check::{expected_move, expected_set};
 use crate::deq::Deq;
 use crate::library::Library;
 use crate::lines::{LineBuf, TELLING};
-use crate::model::{self, Mode, line_refusal, room_refusal};
+use crate::model::{self, line_refusal, room_refusal};
+use crate::parser::SourceLocation;
 use crate::record;
-use crate::rust_side::{self, ENTRIES, Entry, KINDS, MOVES, NO_SUBS, NORMAL, Outcome, Set};
-use crate::stand_in::{Bump, BumpString, Row, SourceLocation};
+use crate::rust_side::{
+    self, ENTRIES, Entry, KINDS, MODES, MOVES, Mode, Move, NO_SUBS, NORMAL, Outcome, STARTS, Set,
+};
+use crate::stand_in::{Bump, BumpString, Row};
 use crate::token::{Token, TokenIs, TokenKind};
 
 struct Tests {
@@ -214,6 +217,56 @@ fn sets(t: &mut Tests) {
     t.same("too long comes first", expected_set(Mode::Sheet, flagged, Some(&[b'a'; 65_536])).refusal, 9);
     t.same("no bytes give the empty set", expected_set(Mode::Port, NORMAL, Some(b"")).set, NO_SUBS);
     t.same("no attribute gives the set", expected_set(Mode::Port, NORMAL, None).set, NORMAL);
+    moves(t);
+}
+
+/// What the moves must answer, where document 01 says it in words.
+fn moves(t: &mut Tests) {
+    let moved = |mode, set, step, kind| {
+        let answer = expected_move(mode, set, step, kind);
+        (answer.refusal, answer.set.places, answer.set.flags)
+    };
+    let (full, flagged) = ([1, 2, 3, 4, 5, 6, 0], Set { flags: 127, ..NORMAL });
+    t.same("with six filled the flag alone", moved(Mode::Port, NORMAL, Move::Insert, 7), (0, full, 127));
+    let seventh = [1, 2, 3, 4, 5, 6, 7];
+    t.same("the seventh place", moved(Mode::Sheet, NORMAL, Move::Insert, 7), (0, seventh, 127));
+    t.same("the flag is set", moved(Mode::Port, flagged, Move::Insert, 7), (0, full, 127));
+    t.same("held, not sound", moved(Mode::Sheet, flagged, Move::Insert, 7), (11, full, 127));
+    t.same("remove clears the flag", moved(Mode::Port, flagged, Move::Remove, 7), (0, full, 63));
+    for mode in MODES {
+        let gap = [1, 2, 4, 5, 6, 0, 0];
+        t.same("remove closes the gap", moved(mode, NORMAL, Move::Remove, 3), (0, gap, 59));
+        let first = [3, 1, 2, 4, 5, 6, 0];
+        t.same("prepend moves", moved(mode, NORMAL, Move::Prepend, 3), (0, first, 63));
+        let all = [7, 1, 2, 3, 4, 5, 6];
+        t.same("prepend puts", moved(mode, NORMAL, Move::Prepend, 7), (0, all, 127));
+        for step in MOVES {
+            for kind in [0, 8, 255] {
+                t.same("no kind is named", moved(mode, NORMAL, step, kind), (0, full, 63));
+                t.same("not held comes first", moved(mode, Set { flags: 0, ..NORMAL }, step, kind).0, 10);
+            }
+        }
+        for step in MOVES {
+            let kept =
+                model::held_sets().into_iter().filter(|set| model::set_refusal(mode, *set) == 0).all(|set| {
+                    (1..=7)
+                        .all(|kind| model::set_refusal(mode, expected_move(mode, set, step, kind).set) == 0)
+                });
+            t.holds("a move keeps a set one that its mode takes", kept);
+        }
+    }
+    let starts = STARTS.map(|(name, start)| (name, rust_side::of_rust(start())));
+    let [(_, none), (_, normal), (_, verbatim), (_, attr_value), (_, special), (_, all)] = starts;
+    t.same("none and normal", (none, normal), (NO_SUBS, NORMAL));
+    let by_text = |mode, text: &str| expected_set(mode, NO_SUBS, Some(text.as_bytes())).set;
+    // the Rust's own verbatim() is not what its text `verbatim` gives
+    t.same("verbatim()", (verbatim.places, verbatim.flags), ([1, 7, 0, 0, 0, 0, 0], 65));
+    t.holds("the text verbatim, port mode", by_text(Mode::Port, "verbatim") != verbatim);
+    t.same("the text verbatim, sheet mode", by_text(Mode::Sheet, "verbatim"), verbatim);
+    t.same("attr_value", attr_value, by_text(Mode::Port, "specialchars,quotes,attributes,replacements"));
+    t.same("only_special_chars", special, by_text(Mode::Port, "specialchars"));
+    t.same("all", all, by_text(Mode::Sheet, "normal,callouts"));
+    t.holds("each starting set is sound", starts.iter().all(|(_, set)| model::sound(*set)));
 }
 
 fn refusals(t: &mut Tests) {

@@ -1,6 +1,6 @@
-//! What the Rust sources lean on and the source folder does not hold: the arena, source
-//! locations, the AST and the parser's state, as far as `parse_attr_list.rs` and
-//! `customize_subs.rs` reach them; `unreached.rs` has the rest.
+//! What the Rust sources lean on and the source folder does not hold, so that it records what they
+//! do: the arena, the AST and what the parser does with a run of tokens. `parser.rs` and
+//! `unreached.rs` have the rest.
 
 use std::borrow::Cow;
 use std::cell::RefCell;
@@ -9,13 +9,12 @@ use std::marker::PhantomData;
 use std::ops::{Deref, DerefMut};
 
 use crate::deq::Deq;
-use crate::line::Line;
+use crate::parser::{
+    ContiguousLines, Inline, InlineCtx, MultiSourceLocation, Parser, Result, SourceLocation,
+};
 use crate::substitutions::Substitutions;
-use crate::token::{Token, TokenSpec};
-
-pub type Result<T> = std::result::Result<T, ()>;
-
-pub use crate::unreached::*;
+use crate::token::Token;
+use crate::unreached::missing;
 
 // ---- the arena, with the one event log
 
@@ -191,45 +190,9 @@ impl fmt::Display for BumpString<'_> {
     }
 }
 
-// ---- source locations: token i stands at start i + 1, end i + 2; the opening bracket at 0
-
-#[derive(Debug, Clone, Copy, PartialEq, Eq, Default)]
-pub struct SourceLocation {
-    pub start: u32,
-    pub end: u32,
-    pub include_depth: u16,
-}
+// ---- runs of tokens
 
 impl SourceLocation {
-    pub const fn new(start: u32, end: u32, include_depth: u16) -> Self {
-        SourceLocation { start, end, include_depth }
-    }
-
-    /// Where token number `place` stands.
-    pub fn of_token(place: usize) -> Self {
-        Self::new(place as u32 + 1, place as u32 + 2, 0)
-    }
-
-    pub fn spanning(first: Self, last: Self) -> Self {
-        Self::new(first.start, last.end, first.include_depth)
-    }
-
-    pub fn extend(&mut self, other: Self) {
-        self.end = other.end;
-    }
-
-    pub fn decr_start(&self) -> Self {
-        Self::new(self.start - 1, self.end, self.include_depth)
-    }
-
-    pub fn incr_end(&self) -> Self {
-        Self::new(self.start, self.end + 1, self.include_depth)
-    }
-
-    pub fn clamp_start(&self) -> Self {
-        Self::new(self.start, self.start, self.include_depth)
-    }
-
     /// The run that it spans.
     fn run(&self) -> Run {
         Run { place: self.start - 1, count: self.end - self.start }
@@ -251,14 +214,6 @@ fn run_of(tokens: &Deq<'_, Token<'_>>) -> Run {
     match (tokens.first(), tokens.last()) {
         (Some(first), Some(last)) => SourceLocation::spanning(first.loc, last.loc).run(),
         _ => Run::default(),
-    }
-}
-
-pub struct MultiSourceLocation;
-
-impl MultiSourceLocation {
-    pub fn coalesce(self) -> Option<SourceLocation> {
-        missing("MultiSourceLocation::coalesce")
     }
 }
 
@@ -298,10 +253,6 @@ pub struct InlineNodes<'b> {
 }
 
 pub struct InlineNode<'b>(PhantomData<&'b Bump>);
-
-pub enum Inline<'b> {
-    Text(BumpString<'b>),
-}
 
 impl<'b> InlineNode<'b> {
     pub fn new(_: Inline<'b>, _: SourceLocation) -> Self {
@@ -397,51 +348,7 @@ impl MultiAttrList<'_> {
 
 // ---- the parser
 
-#[derive(Debug, Clone, Copy, PartialEq, Eq)]
-pub enum InlineCtx {
-    None,
-    LinkMacroAttrs,
-}
-
-impl InlineCtx {
-    pub fn specs(&self) -> Option<&'static [TokenSpec]> {
-        missing("InlineCtx::specs")
-    }
-}
-
-pub struct ParseContext {
-    pub subs: Substitutions,
-    pub inline_ctx: InlineCtx,
-}
-
-pub struct Lexer;
-
-impl Lexer {
-    pub fn is_builtin_macro_name(_: &[u8]) -> bool {
-        missing("Lexer::is_builtin_macro_name")
-    }
-
-    pub fn src_string_from_loc<'b>(&self, _: SourceLocation) -> SourceString<'b> {
-        missing("Lexer::src_string_from_loc")
-    }
-}
-
-pub struct Parser<'b> {
-    pub bump: &'b Bump,
-    pub ctx: ParseContext,
-    pub lexer: Lexer,
-}
-
 impl<'b> Parser<'b> {
-    pub fn new(bump: &'b Bump) -> Self {
-        let ctx = ParseContext { subs: Substitutions::normal(), inline_ctx: InlineCtx::None };
-        Parser { bump, ctx, lexer: Lexer }
-    }
-
-    pub fn string(&self, s: &str) -> BumpString<'b> {
-        BumpString::from_str_in(s, self.bump)
-    }
-
     /// A diagnostic is noted and reading goes on.
     pub fn err_at(&self, message: &str, loc: SourceLocation) -> Result<()> {
         let number = match message {
@@ -477,21 +384,5 @@ impl<'b> Parser<'b> {
 
     fn nodes(&self, run: Run) -> InlineNodes<'b> {
         InlineNodes { run, subs: self.ctx.subs, arena: PhantomData }
-    }
-}
-
-pub struct ContiguousLines<'b> {
-    lines: Deq<'b, Line<'b>>,
-}
-
-impl<'b> ContiguousLines<'b> {
-    pub fn new(lines: Deq<'b, Line<'b>>) -> Self {
-        ContiguousLines { lines }
-    }
-}
-
-impl<'b> crate::deq::DefaultIn<'b> for Line<'b> {
-    fn default_in(bump: &'b Bump) -> Self {
-        Line::empty(bump)
     }
 }

@@ -21,7 +21,7 @@ static void print_answer(const char *mode, telfjost_set_answer answer)
 
 int main(void)
 {
-    const telfjost_set normal = {{1, 2, 3, 4, 5, 6, 0}, 63};
+    const telfjost_set normal = telfjost_normal();
     const char *const texts[] = {"quotes, macros", "verbatim", "+callouts", "-quotes"};
     for (size_t i = 0; i < sizeof texts / sizeof *texts; i++) {
         const uint8_t *text = (const uint8_t *)texts[i];

@@ -12,17 +12,17 @@ use borrow.Author.Tests.{eqb-true, eqb-false}
 use Rattle.substitutions.specs.declared.Substitutions.{Substitutions}
 use Rattle.substitutions.specs.declared.Mode.{Mode}
 use Rattle.substitutions.specs.declared.Mode.the-variants.{Port, Sheet}
-use Rattle.substitutions.specs.Kinds.{flagOf, flagged, one, each, sum}
-use Rattle.substitutions.specs.Held.{times, small, empty, packed, once, covered, spare, spares, held}
+use Rattle.substitutions.specs.Kinds.{flagOf, flagged}
+use Rattle.substitutions.specs.Held.{held}
 use Rattle.substitutions.specs.Moves.{set, empty-set, filled, insertOf}
-use Rattle.substitutions.specs.Reading.{HeldSet, place}
-use Rattle.substitutions.specs.ReadingLaws.{held-read}
+use Rattle.substitutions.specs.HeldPlaces.{HeldSet, place}
+use Rattle.substitutions.specs.HeldPlacesLaws.{held-read}
 use Rattle.subs_names.specs.declared.StepOrGroup.{StepOrGroup}
 use Rattle.subs_names.specs.declared.StepOrGroup.the-variants.{None, Normal, Verbatim, SpecialChars, Callouts, Quotes, Attributes, Replacements, Macros, PostReplacements}
 use Rattle.customize_subs.specs.declared.Strategy.{Strategy}
 use Rattle.customize_subs.specs.declared.Strategy.the-variants.{Insert}
 use Rattle.customize_subs.specs.Customizing.{kindsOf, entered}
-use Rattle.customize_subs.specs.Walks.{aloneOf}
+use Rattle.customize_subs.specs.Steps.{aloneOf}
 
 -- A held set with no flag is empty, since each kind placed has a flag.
 no-flag : (k : ℕ) → flagged k 0 ≡ false
@@ -58,7 +58,7 @@ module _ (s : Substitutions) (h : held s ≡ true) (f : s .flags ≡ 0) where
       let e : s .places ≡ zeros = ext-getD 0 (s .places) zeros seven (λ i lt. place-empty i (omega (arith, seven, lt)) ∙ sym (zero-at i)) in
       ap (λ (ps : List ℕ). set ps (s .flags)) e ∙ ap (set zeros) f
 
--- The set of a name alone is what its insert makes of the empty set, and it is held.
+-- The set of a name alone is what its insert makes of the empty set.
 alone-is : (m : Mode) (step : StepOrGroup) → aloneOf m step ≡ entered m Insert (kindsOf m step) empty-set
 unfolding entered insertOf filled flagged
 alone-is Port None = refl
@@ -82,23 +82,7 @@ alone-is Sheet Replacements = refl
 alone-is Sheet Macros = refl
 alone-is Sheet PostReplacements = refl
 
-alone-held : (m : Mode) (step : StepOrGroup) → held (aloneOf m step) ≡ true
-unfolding held small packed empty once covered spares spare times each sum flagged
-alone-held m None = refl
-alone-held m Normal = refl
-alone-held Port Verbatim = refl
-alone-held Sheet Verbatim = refl
-alone-held m SpecialChars = refl
-alone-held m Callouts = refl
-alone-held m Quotes = refl
-alone-held m Attributes = refl
-alone-held m Replacements = refl
-alone-held m Macros = refl
-alone-held m PostReplacements = refl
-
 pub enter-alone : (m : Mode) (how : Strategy) (step : StepOrGroup) (s r : Substitutions) → held s ≡ true → s .flags ≡ 0 → how ≡ Insert → r ≡ aloneOf m step
-    → (r ≡ entered m how (kindsOf m step) s) × (held r ≡ true)
-enter-alone m how step s r h f i e = (
-  e ∙ alone-is m step ∙ ap (entered m Insert (kindsOf m step)) (sym (flagless-empty s h f)) ∙ ap (λ (x : Strategy). entered m x (kindsOf m step) s) (sym i),
-  ap held e ∙ alone-held m step,
-)
+    → r ≡ entered m how (kindsOf m step) s
+enter-alone m how step s r h f i e =
+    e ∙ alone-is m step ∙ ap (entered m Insert (kindsOf m step)) (sym (flagless-empty s h f)) ∙ ap (λ (x : Strategy). entered m x (kindsOf m step) s) (sym i)

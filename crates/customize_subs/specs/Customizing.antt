@@ -4,7 +4,8 @@ use Prim.Native.Nat.{ℕ, _-_}
 use mathlib.Core.Bool.{Bool, true, false, cond, _&&_}
 use mathlib.Core.List.{List, [], _∷_}
 use lib.Dec.{eqb, ltb}
-use lib.ListN.{length, getD, take, drop}
+use lib.ListN.{length, take, drop}
+use Rattle.refusals.specs.Refusals.{subsTextTooLong}
 use Rattle.substitutions.specs.declared.Substitutions.{Substitutions}
 use Rattle.substitutions.specs.declared.SetAnswer.{SetAnswer}
 use Rattle.substitutions.specs.declared.Mode.{Mode}
@@ -17,7 +18,7 @@ use Rattle.subs_names.specs.declared.Lookup.the-variants.{Found, Unknown}
 use Rattle.customize_subs.specs.declared.Strategy.{Strategy}
 use Rattle.customize_subs.specs.declared.Strategy.the-variants.{Insert, Prepend, Remove}
 use Rattle.subs_names.specs.Names.{lookupOf}
-use Rattle.customize_subs.specs.Text.{split, spaced, modified}
+use Rattle.customize_subs.specs.Text.{split, spaced, modified, firstOf, lastOf}
 
 -- Where the modes differ: spaces are taken off both ends of each part before its length is tested, in sheet mode;
 abbrev pub partOf : Mode → List ℕ → List ℕ
@@ -59,12 +60,6 @@ enteredName m how (Found step) s = entered m how (kindsOf m step) s
 enteredName m how Unknown s = s
 
 -- Leading + inserts, else trailing + prepends, else leading − removes, else insert; the name is what is left.
-abbrev pub firstOf : List ℕ → ℕ
-firstOf part = getD part 0 0
-
-abbrev pub lastOf : List ℕ → ℕ
-lastOf part = getD part (length part - 1) 0
-
 unfoldable pub strategyOf : List ℕ → Strategy
 strategyOf part = cond (eqb (firstOf part) 43) Insert (cond (eqb (lastOf part) 43) Prepend (cond (eqb (firstOf part) 45) Remove Insert))
 
@@ -95,7 +90,7 @@ metaOf m s true text = through m (startOf s text) (split text)
 -- The checks in their order: a subs text over 65,535 bytes is 9 (with no subs attribute there is no subs text), then those of
 -- the set.
 unfoldable pub metaRefusal : Mode → Substitutions → Bool → List ℕ → ℕ
-metaRefusal m s present text = cond (present && ltb 65535 (length text)) 9 (refusalOf m s)
+metaRefusal m s present text = cond (present && ltb 65535 (length text)) subsTextTooLong (refusalOf m s)
 
 -- What `from_meta` answers, in port mode and in sheet mode.
 unfoldable pub metaAnswer : Mode → Substitutions → Bool → List ℕ → SetAnswer

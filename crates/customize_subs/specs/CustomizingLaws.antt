@@ -8,6 +8,7 @@ use borrow.Author.Tests.{eq-eqb, ne-eqb, lt-ltb, le-ltb, ltb-false, not-true}
 use lib.Dec.{ltb}
 use lib.ListN.{length, take, drop, getD}
 use lib.Seq.{getD-drop, getD-take, take-take}
+use Rattle.refusals.specs.Refusals.{subsTextTooLong}
 use Rattle.substitutions.specs.declared.Substitutions.{Substitutions}
 use Rattle.substitutions.specs.declared.Mode.{Mode}
 use Rattle.substitutions.specs.Kinds.{flagged}
@@ -16,10 +17,12 @@ use Rattle.subs_names.specs.declared.Lookup.{Lookup}
 use Rattle.customize_subs.specs.declared.Strategy.{Strategy}
 use Rattle.customize_subs.specs.declared.Strategy.the-variants.{Insert, Prepend, Remove}
 use Rattle.subs_names.specs.Names.{lookupOf}
-use Rattle.customize_subs.specs.Text.{split}
-use Rattle.customize_subs.specs.Customizing.{partOf, moveOf, entered, firstOf, lastOf, strategyOf, nameOf, enteredName, stepped, through, startOf, metaOf, metaRefusal}
+use Rattle.customize_subs.specs.Text.{split, firstOf, lastOf}
+use Rattle.customize_subs.specs.Customizing.{partOf, moveOf, entered, strategyOf, nameOf, enteredName, stepped, through, startOf, metaOf, metaRefusal}
 use Rattle.customize_subs.specs.TextLaws.{between-length, between-cons, parts-cons, parts-none}
-use Rattle.customize_subs.specs.Walks.{toComma, between, partsFrom, stays}
+use Rattle.customize_subs.specs.declared.parts.Span.{Span}
+use Rattle.customize_subs.specs.Places.{toComma, between, partsFrom, frontOf, PartAt, named, namedAt, NameAt}
+use Rattle.customize_subs.specs.Steps.{stays}
 
 -- A set that stays is what the move gives.
 pub stays-same : (m : Mode) (t : Strategy) (k : ℕ) (s : Substitutions) → stays t k s ≡ true → s ≡ moveOf m t k s
@@ -54,34 +57,43 @@ module _ (a e : ℕ) (l : List ℕ) (lt : a < e) (le : e ≤ length l) where
   abbrev part : List ℕ
   part = between a e l
 
-  pub reads-plus : getD l a 0 ≡ 43 → (Insert ≡ strategyOf part) × (between (a + 1) e l ≡ nameOf part)
-  unfolding strategyOf nameOf
+  pub reads-plus : getD l a 0 ≡ 43 → NameAt a e l (named Insert (a + 1) e)
+  unfolding strategyOf nameOf namedAt
   reads-plus p =
       let f = eq-eqb (firstOf part) 43 (first-is ∙ p) in
-      (rw f, rw f (sym less-first))
+      record { places = rw f; strategy = rw f; name = rw f (sym less-first) }
 
-  pub reads-trailing : (getD l a 0 ≡ 43 → ⊥) → getD l (e - 1) 0 ≡ 43 → (Prepend ≡ strategyOf part) × (between a (e - 1) l ≡ nameOf part)
-  unfolding strategyOf nameOf
+  pub reads-trailing : (getD l a 0 ≡ 43 → ⊥) → getD l (e - 1) 0 ≡ 43 → NameAt a e l (named Prepend a (e - 1))
+  unfolding strategyOf nameOf namedAt
   reads-trailing p q =
       let f = ne-eqb (firstOf part) 43 (λ z. p (sym first-is ∙ z)) in
       let g = eq-eqb (lastOf part) 43 (last-is ∙ q) in
-      (rw (f, g), rw (f, g) (sym less-last))
+      record { places = rw (f, g); strategy = rw (f, g); name = rw (f, g) (sym less-last) }
 
-  pub reads-minus : (getD l a 0 ≡ 43 → ⊥) → (getD l (e - 1) 0 ≡ 43 → ⊥) → getD l a 0 ≡ 45 → (Remove ≡ strategyOf part) × (between (a + 1) e l ≡ nameOf part)
-  unfolding strategyOf nameOf
+  pub reads-minus : (getD l a 0 ≡ 43 → ⊥) → (getD l (e - 1) 0 ≡ 43 → ⊥) → getD l a 0 ≡ 45 → NameAt a e l (named Remove (a + 1) e)
+  unfolding strategyOf nameOf namedAt
   reads-minus p q r =
       let f = ne-eqb (firstOf part) 43 (λ z. p (sym first-is ∙ z)) in
       let g = ne-eqb (lastOf part) 43 (λ z. q (sym last-is ∙ z)) in
       let h = eq-eqb (firstOf part) 45 (first-is ∙ r) in
-      (rw (f, g, h), rw (f, g, h) (sym less-first))
+      record { places = rw (f, g, h); strategy = rw (f, g, h); name = rw (f, g, h) (sym less-first) }
 
-  pub reads-plain : (getD l a 0 ≡ 43 → ⊥) → (getD l (e - 1) 0 ≡ 43 → ⊥) → (getD l a 0 ≡ 45 → ⊥) → (Insert ≡ strategyOf part) × (between a e l ≡ nameOf part)
-  unfolding strategyOf nameOf
+  pub reads-plain : (getD l a 0 ≡ 43 → ⊥) → (getD l (e - 1) 0 ≡ 43 → ⊥) → (getD l a 0 ≡ 45 → ⊥) → NameAt a e l (named Insert a e)
+  unfolding strategyOf nameOf namedAt
   reads-plain p q r =
       let f = ne-eqb (firstOf part) 43 (λ z. p (sym first-is ∙ z)) in
       let g = ne-eqb (lastOf part) 43 (λ z. q (sym last-is ∙ z)) in
       let h = ne-eqb (firstOf part) 45 (λ z. r (sym first-is ∙ z)) in
-      (rw (f, g, h), rw (f, g, h))
+      record { places = rw (f, g, h); strategy = rw (f, g, h); name = rw (f, g, h) }
+
+-- Where a part stands, by the lengths of what stands there.
+pub part-stands : (m : Mode) (a e from to : ℕ) (text : List ℕ) → e ≤ length text → from ≤ to → to ≤ e → between from e text ≡ frontOf m (between a e text)
+    → between from to text ≡ partOf m (between a e text) → PartAt m a e text (record { start = from; end = to })
+part-stands m a e from to text le o u f p = record {
+  begins = omega (arith, between-length from e text le, ap length f);
+  ends = omega (arith, between-length from to text (omega arith), ap length p);
+  part = p;
+}
 
 -- One turn of the loop over the parts: the part from start up to end, read by the mode, stands from a up to b.
 stepped-short : (m : Mode) (s : Substitutions) (p : List ℕ) → length p < 4 → s ≡ stepped m s p
@@ -140,7 +152,7 @@ module _ (m : Mode) (s : Substitutions) (text : List ℕ) where
   unfolding metaRefusal
   refusal-absent present e = rw e
 
-  pub refusal-long : (present : Bool) → present ≡ true → 65535 < length text → 9 ≡ metaRefusal m s present text
+  pub refusal-long : (present : Bool) → present ≡ true → 65535 < length text → subsTextTooLong ≡ metaRefusal m s present text
   unfolding metaRefusal
   refusal-long present e h = rw (e, lt-ltb 65535 (length text) h)
 
@@ -154,7 +166,7 @@ module _ (m : Mode) (s : Substitutions) (text : List ℕ) where
   unfolding metaRefusal
   short-text present e z = by (ltb 65535 (length text)) refl (rw e at z)
     where
-      by : (t : Bool) → ltb 65535 (length text) ≡ t → cond t 9 (refusalOf m s) ≡ 0 → length text ≤ 65535
+      by : (t : Bool) → ltb 65535 (length text) ≡ t → cond t subsTextTooLong (refusalOf m s) ≡ 0 → length text ≤ 65535
       by true q z = absurd (omega arith)
       by false q z = ltb-false 65535 (length text) q
 
@@ -162,7 +174,7 @@ module _ (m : Mode) (s : Substitutions) (text : List ℕ) where
   unfolding metaRefusal
   set-accepted present z = by (present && ltb 65535 (length text)) z
     where
-      by : (t : Bool) → cond t 9 (refusalOf m s) ≡ 0 → refusalOf m s ≡ 0
+      by : (t : Bool) → cond t subsTextTooLong (refusalOf m s) ≡ 0 → refusalOf m s ≡ 0
       by true z = absurd (omega arith)
       by false z = z
 

@@ -1,8 +1,14 @@
 pub mod AloneLaws
 pub mod Text
 pub mod Customizing
-pub mod Cases
-pub mod Walks
+pub mod Sheet
+pub mod Outcome
+pub mod Examples
+pub mod SheetExamples
+pub mod Places
+pub mod Steps
 pub mod TextLaws
 pub mod CustomizingLaws
 pub mod MetaLaws
+pub mod SheetLaws
+pub mod OutcomeLaws

@@ -7,14 +7,15 @@ use native.Mathlib.Omega.{arith}
 use borrow.Author.Tests.{leb-true}
 use lib.Dec.{leb, ltb}
 use lib.ListN.{length}
+use Rattle.refusals.specs.Refusals.{setNotHeld, setNotSound}
 use Rattle.substitutions.specs.declared.Substitutions.{Substitutions}
 use Rattle.substitutions.specs.declared.Mode.{Mode}
 use Rattle.substitutions.specs.declared.Mode.the-variants.{Port, Sheet}
-use Rattle.substitutions.specs.Kinds.{flagged, each, sum}
-use Rattle.substitutions.specs.Held.{times, small, empty, packed, once, covered, spare, spares, held, sound}
+use Rattle.substitutions.specs.Held.{held, sound}
 use Rattle.substitutions.specs.Moves.{empty-set, room, refusalOf}
 use Rattle.substitutions.specs.KindsLaws.{and-left, and-right}
-use Rattle.substitutions.specs.MovesLaws.{insert-held, remove-held, prepend-held, insert-sound, remove-sound, prepend-sound}
+use Rattle.substitutions.specs.MovesLaws.{insert-held, remove-held, prepend-held, insert-sound, remove-sound, prepend-sound, sound-held}
+use Rattle.substitutions.specs.StartingLaws.{none-sound}
 use Rattle.substitutions.specs.AnswersLaws.{accepted}
 use Rattle.subs_names.specs.declared.StepOrGroup.{StepOrGroup}
 use Rattle.subs_names.specs.declared.StepOrGroup.the-variants.{None, Normal, Verbatim, SpecialChars, Callouts, Quotes, Attributes, Replacements, Macros, PostReplacements}
@@ -28,11 +29,11 @@ use Rattle.customize_subs.specs.Customizing.{partOf, moveOf, kindsOf, en
 use Rattle.customize_subs.specs.CustomizingLaws.{set-accepted}
 
 -- Every name stands for kinds of 1 to 7.
-unfoldable kinds : List ℕ → Bool
+unfoldable pub kinds : List ℕ → Bool
 kinds [] = true
 kinds (k ∷ ks) = leb 1 k && leb k 7 && kinds ks
 
-kinds-right : (m : Mode) (step : StepOrGroup) → kinds (kindsOf m step) ≡ true
+pub kinds-right : (m : Mode) (step : StepOrGroup) → kinds (kindsOf m step) ≡ true
 unfolding kinds
 kinds-right m None = refl
 kinds-right m Normal = refl
@@ -96,27 +97,34 @@ moves-held m Insert k s a b h = insert-held s k a b (room m) (room-six m) (room-
 moves-held m Prepend k s a b h = prepend-held s k a b h
 moves-held m Remove k s a b h = remove-held s k a b h
 
-moves-sound : (how : Strategy) (k : ℕ) (s : Substitutions) → 1 ≤ k → k ≤ 7 → sound s ≡ true → sound (moveOf Sheet how k s) ≡ true
+pub moves-sound : (how : Strategy) (k : ℕ) (s : Substitutions) → 1 ≤ k → k ≤ 7 → sound s ≡ true → sound (moveOf Sheet how k s) ≡ true
 moves-sound Insert k s a b h = insert-sound s k a b h
 moves-sound Prepend k s a b h = prepend-sound s k a b h
 moves-sound Remove k s a b h = remove-sound s k a b h
 
-none-sound : sound empty-set ≡ true
-unfolding sound held small packed empty once covered spares spare times each sum flagged
-none-sound = refl
-
 none-held : held empty-set ≡ true
-unfolding held small packed empty once covered spares spare times each sum flagged
-none-held = refl
+none-held = sound-held empty-set none-sound
 
-sheet-sound : (s : Substitutions) → refusalOf Sheet s ≡ 0 → sound s ≡ true
+pub sheet-sound : (s : Substitutions) → refusalOf Sheet s ≡ 0 → sound s ≡ true
 unfolding refusalOf
 sheet-sound s e = by (held s) (sound s) e
   where
-    by : (t u : Bool) → _≡_ {A = ℕ} (cond t (cond u 0 11) 10) 0 → u ≡ true
+    by : (t u : Bool) → _≡_ {A = ℕ} (cond t (cond u 0 setNotSound) setNotHeld) 0 → u ≡ true
     by t true q = refl
     by true false q = absurd (omega arith)
     by false false q = absurd (omega arith)
+
+-- What a part's move and the set that a text begins with keep.
+pub entered-held : (m : Mode) (how : Strategy) (step : StepOrGroup) (s : Substitutions) → held s ≡ true → held (entered m how (kindsOf m step) s) ≡ true
+entered-held m how step s h = keeps-kinds m (λ t. held t ≡ true) (moves-held m) how (kindsOf m step) s (kinds-right m step) h
+
+pub start-held : (s : Substitutions) (text : List ℕ) → held s ≡ true → held (startOf s text) ≡ true
+unfolding startOf
+start-held s text h = by (modified text)
+  where
+    by : (t : Bool) → held (cond t s empty-set) ≡ true
+    by true = h
+    by false = none-held
 
 -- The laws.
 pub meta-held : (m : Mode) (s : Substitutions) (present : Bool) (text : List ℕ) → metaRefusal m s present text ≡ 0 → held (metaOf m s present text) ≡ true

@@ -12,7 +12,7 @@ use lib.ListN.{length, take, drop, getD, drop-of-length-le, length-drop}
 use lib.Seq.{drop-cons, drop-drop, take-suc, getD-drop, length-take-le}
 use Rattle.substitutions.specs.Kinds.{one}
 use Rattle.customize_subs.specs.Text.{onFirst, split, front, blank, back, modified}
-use Rattle.customize_subs.specs.Walks.{toComma, isModifier, between, partsFrom}
+use Rattle.customize_subs.specs.Places.{toComma, isModifier, between, partsFrom}
 
 -- 1 where f is 1 or t holds, else 0.
 pub found-or : (f : ℕ) (t : Bool) → f ≤ 1 → (bitOr f (one t) ≤ 1) × (eqb (bitOr f (one t)) 1 ≡ (eqb f 1 || t))

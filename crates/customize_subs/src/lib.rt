@@ -4,12 +4,12 @@ mod steps;
 
 use crate::parts::begins_modified;
 use crate::parts::has_modifier;
+use crate::parts::look_up_in;
 use crate::parts::name_at;
 use crate::parts::next_comma;
 use crate::parts::part_at;
 use crate::steps::enter;
 use subs_names::Lookup;
-use subs_names::look_up_in;
 use substitutions::Mode;
 use substitutions::SetAnswer;
 use substitutions::Substitutions;
@@ -19,10 +19,11 @@ ghost use Prim.Native.Nat.{_≤_};
 ghost use lib.ListN.{length};
 ghost use Rattle.substitutions.specs.Held.{held};
 ghost use Rattle.customize_subs.specs.Text.{split};
-ghost use Rattle.customize_subs.specs.Customizing.{startOf, through, metaRefusal, metaAnswer, portMeta, sheetMeta};
+ghost use Rattle.customize_subs.specs.Customizing.{startOf, through, metaRefusal, metaAnswer};
+ghost use Rattle.customize_subs.specs.Outcome.{PortOutcome, SheetOutcome};
 
 // The move that a part asks for.
-pub enum Strategy {
+enum Strategy {
     Insert,
     Prepend,
     Remove,
@@ -30,9 +31,7 @@ pub enum Strategy {
 
 // Any + or - in the text: the set given, else the empty set.
 fn start_of(set: Substitutions, text: &[u8]) -> Substitutions
-    requires { ⌜ held set ≡ true ⌝ }
     ensures { λ r. ⌜ r ≡ startOf set (now (text .entry)) ⌝ }
-    ensures held { λ r. ⌜ held r ≡ true ⌝ }
 {
     if begins_modified(text) {
         return set;
@@ -40,14 +39,13 @@ fn start_of(set: Substitutions, text: &[u8]) -> Substitutions
     if has_modifier(text) {
         return set;
     }
-    substitutions::none()
+    substitutions::starting::none()
 }
 
 // The parts of the text, one after the other.
 fn customize(mode: Mode, set: Substitutions, text: &[u8]) -> Substitutions
     requires { ⌜ (held set ≡ true) × (length (now text) ≤ 65535) ⌝ }
     ensures { λ r. ⌜ r ≡ through mode set (split (now (text .entry))) ⌝ }
-    ensures held { λ r. ⌜ held r ≡ true ⌝ }
 {
     let mut next = set;
     let mut start: usize = 0;
@@ -79,7 +77,7 @@ fn refusal(mode: Mode, set: Substitutions, present: bool, text: &[u8]) -> usize
         return substitutions::refusal(mode, set);
     }
     if text.len() > 65535 {
-        return 9;
+        return refusals::SUBS_TEXT_TOO_LONG;
     }
     substitutions::refusal(mode, set)
 }
@@ -103,13 +101,13 @@ fn from_meta_in(mode: Mode, set: Substitutions, present: bool, text: &[u8]) -> S
 
 // `present` is false where the block has no subs attribute; the text is then not looked at.
 pub fn from_meta(set: Substitutions, present: bool, text: &[u8]) -> SetAnswer
-    ensures { λ r. ⌜ r ≡ portMeta set present (now (text .entry)) ⌝ }
+    ensures { λ r. ⌜ PortOutcome set present (now (text .entry)) r ⌝ }
 {
     from_meta_in(Mode::Port, set, present, text)
 }
 
 pub fn from_meta_sheet(set: Substitutions, present: bool, text: &[u8]) -> SetAnswer
-    ensures { λ r. ⌜ r ≡ sheetMeta set present (now (text .entry)) ⌝ }
+    ensures { λ r. ⌜ SheetOutcome set present (now (text .entry)) r ⌝ }
 {
     from_meta_in(Mode::Sheet, set, present, text)
 }

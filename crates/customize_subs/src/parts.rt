@@ -1,13 +1,15 @@
 // The parts of the text between commas, by their places.
 use crate::Strategy;
+use subs_names::Lookup;
+use subs_names::look_up;
 use substitutions::Mode;
 ghost use mathlib.Core.Path.{_≡_};
-ghost use Prim.Native.Nat.{_≤_, _<_, _+_};
-ghost use lib.ListN.{length, drop, getD};
+ghost use Prim.Native.Nat.{_≤_, _<_, _+_, _-_};
+ghost use lib.ListN.{length, take, drop, getD};
 ghost use Rattle.substitutions.specs.Kinds.{one};
+ghost use Rattle.subs_names.specs.Names.{lookupOf};
 ghost use Rattle.customize_subs.specs.Text.{front, back, modified};
-ghost use Rattle.customize_subs.specs.Customizing.{partOf, strategyOf, nameOf};
-ghost use Rattle.customize_subs.specs.Walks.{toComma, isModifier, between};
+ghost use Rattle.customize_subs.specs.Places.{toComma, isModifier, between, PartAt, NameAt};
 
 // A part of the text: the bytes from `start` up to `end`.
 pub struct Span {
@@ -30,7 +32,7 @@ pub fn next_comma(text: &[u8], from: usize) -> usize
 {
     let mut i = from;
     while i < text.len() {
-        if text[i] == 44 {
+        if text[i] == b',' {
             return i;
         }
         i = i + 1;
@@ -43,8 +45,8 @@ fn modifier(b: u8) -> u8
     ensures { λ r. ⌜ r ≡ one (isModifier b) ⌝ }
 {
     match b {
-        43 => 1,
-        45 => 1,
+        b'+' => 1,
+        b'-' => 1,
         _ => 0,
     }
 }
@@ -80,7 +82,7 @@ pub fn skip_spaces(text: &[u8], start: usize, end: usize) -> usize
 {
     let mut i = start;
     while i < end {
-        if text[i] != 32 {
+        if text[i] != b' ' {
             return i;
         }
         i = i + 1;
@@ -96,7 +98,7 @@ pub fn drop_spaces(text: &[u8], start: usize, end: usize) -> usize
 {
     let mut i = end;
     while start < i {
-        if text[i - 1] != 32 {
+        if text[i - 1] != b' ' {
             return i;
         }
         i = i - 1;
@@ -107,7 +109,7 @@ pub fn drop_spaces(text: &[u8], start: usize, end: usize) -> usize
 // The part as the mode reads it: in sheet mode without the spaces at its ends.
 pub fn part_at(mode: Mode, text: &[u8], start: usize, end: usize) -> Span
     requires { ⌜ (start ≤ end) × (end ≤ length (now text)) ⌝ }
-    ensures { λ r. ⌜ between (r .start) (r .end) (now (text .entry)) ≡ partOf mode (between start end (now (text .entry))) ⌝ }
+    ensures { λ r. ⌜ PartAt mode start end (now (text .entry)) r ⌝ }
     ensures within { λ r. ⌜ (r .start ≤ r .end) × (r .end ≤ end) ⌝ }
 {
     match mode {
@@ -126,27 +128,26 @@ pub fn part_at(mode: Mode, text: &[u8], start: usize, end: usize) -> Span
 // Leading + inserts, else trailing + prepends, else leading - removes, else insert.
 pub fn name_at(text: &[u8], start: usize, end: usize) -> Named
     requires { ⌜ (start < end) × (end ≤ length (now text)) ⌝ }
-    ensures { λ r. ⌜ r .strategy ≡ strategyOf (between start end (now (text .entry))) ⌝ }
-    ensures name { λ r. ⌜ between (r .start) (r .end) (now (text .entry)) ≡ nameOf (between start end (now (text .entry))) ⌝ }
+    ensures { λ r. ⌜ NameAt start end (now (text .entry)) r ⌝ }
     ensures within { λ r. ⌜ (r .start ≤ r .end) × (r .end ≤ end) ⌝ }
 {
     let first = text[start];
     let last = text[end - 1];
-    if first == 43 {
+    if first == b'+' {
         return Named {
             strategy: Strategy::Insert,
             start: start + 1,
             end,
         };
     }
-    if last == 43 {
+    if last == b'+' {
         return Named {
             strategy: Strategy::Prepend,
             start,
             end: end - 1,
         };
     }
-    if first == 45 {
+    if first == b'-' {
         return Named {
             strategy: Strategy::Remove,
             start: start + 1,
@@ -158,4 +159,12 @@ pub fn name_at(text: &[u8], start: usize, end: usize) -> Named
         start,
         end,
     }
+}
+
+// The name that stands from `start` up to `end`.
+pub fn look_up_in(text: &[u8], start: usize, end: usize) -> Lookup
+    requires { ⌜ (start ≤ end) × (end ≤ length (now text)) ⌝ }
+    ensures { λ r. ⌜ r ≡ lookupOf (take (end - start) (drop start (now (text .entry)))) ⌝ }
+{
+    look_up(&text[start..end])
 }

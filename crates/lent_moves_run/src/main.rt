@@ -1,4 +1,5 @@
-// Runs the three moves by value and on loan, in both modes, with every kind, over every held set, and counts the answers that differ.
+// Runs the three moves by value and on loan, in both modes, and counts the answers that differ: every held set with every kind, and sets that are
+// not held with one kind each.
 use lent_moves::insert_into;
 use lent_moves::prepend_to;
 use lent_moves::remove_from;
@@ -17,9 +18,10 @@ ghost use mathlib.Core.Path.{_≡_};
 ghost use Prim.Native.Nat.{_≤_};
 ghost use Rattle.substitutions.specs.Moves.{insertAnswer, removeAnswer, prependAnswer};
 
-// How many sets are held, and how many answers differ.
+// How many sets are held, how many are refused because they are not, and how many answers differ.
 struct Count {
-    sets: u64,
+    held: u64,
+    refused: u64,
     differ: u64,
 }
 
@@ -102,37 +104,50 @@ fn over_sheet(set: Substitutions, sub: Subs) -> u64
         + differs(prepend_sheet(set, sub), prepend_lent(Mode::Sheet, set, sub))
 }
 
+// The same in both modes.
+fn over_kind(set: Substitutions, sub: Subs) -> u64
+    ensures { λ r. ⌜ r ≤ 6 ⌝ }
+{
+    over_port(set, sub) + over_sheet(set, sub)
+}
+
 fn over_kinds(set: Substitutions) -> u64
     ensures { λ r. ⌜ r ≤ 42 ⌝ }
 {
     let mut differ: u64 = 0;
     let mut n: u64 = 0;
     while n < 7 {
-        let sub = kind_of(n);
-        differ = differ + over_port(set, sub) + over_sheet(set, sub);
+        differ = differ + over_kind(set, kind_of(n));
         n = n + 1;
     }
     differ
 }
 
-// Every byte of flags, with these places.
+// Every byte of flags, with these places. A set that is not held is refused whatever the kind, so one kind is enough.
 fn over_flags(places: [u8; 7]) -> Count
-    ensures { λ r. ⌜ (r .sets ≤ 256) × (r .differ ≤ 10752) ⌝ }
+    ensures { λ r. ⌜ (r .held ≤ 256) × ((r .refused ≤ 256) × (r .differ ≤ 10752)) ⌝ }
 {
-    let mut sets: u64 = 0;
+    let mut held: u64 = 0;
+    let mut refused: u64 = 0;
     let mut differ: u64 = 0;
     let mut n: u64 = 0;
     while n < 256 {
         let flags = n as u8;
         n = n + 1;
         let set = Substitutions { places, flags };
-        if !is_held(set) {
+        if is_held(set) {
+            held = held + 1;
+            differ = differ + over_kinds(set);
             continue;
         }
-        sets = sets + 1;
-        differ = differ + over_kinds(set);
+        refused = refused + 1;
+        differ = differ + over_kind(set, kind_of(n % 7));
     }
-    Count { sets, differ }
+    Count {
+        held,
+        refused,
+        differ,
+    }
 }
 
 fn flag_of(place: u8) -> u64
@@ -162,46 +177,60 @@ fn flags_of(places: [u8; 7]) -> u8 {
     (flags % 256) as u8
 }
 
-// The places whose digits to the base 8 are the number's.
+// The places whose digits to the base 9 are the number's.
 fn places_of(number: u64) -> [u8; 7] {
     let mut places = [0u8; 7];
     let mut rest = number;
     let mut i: usize = 0;
     while i < 7 {
-        places[i] = (rest % 8) as u8;
-        rest = rest / 8;
+        places[i] = (rest % 9) as u8;
+        rest = rest / 9;
         i = i + 1;
     }
     places
 }
 
-// All seven places from 0 to 7, with every byte of flags where the flags of the places give a held set: with other places no flags do.
+// All seven places from 0 to 8: with every byte of flags where the flags of the places give a held set, else with those flags alone, since
+// with such places no flags do.
 fn over_places() -> Count
-    ensures { λ r. ⌜ r .sets ≤ 536870912 ⌝ }
+    ensures { λ r. ⌜ (r .held ≤ 1224440064) × (r .refused ≤ 1224440064) ⌝ }
 {
-    let mut sets: u64 = 0;
+    let mut held: u64 = 0;
+    let mut refused: u64 = 0;
     let mut differ: u64 = 0;
     let mut number: u64 = 0;
-    while number < 2097152 {
+    while number < 4782969 {
         let places = places_of(number);
         number = number + 1;
         let flags = flags_of(places);
-        if !is_held(Substitutions { places, flags }) {
+        let set = Substitutions { places, flags };
+        if is_held(set) {
+            let count = over_flags(places);
+            held = held + count.held;
+            refused = refused + count.refused;
+            differ = differ + count.differ;
             continue;
         }
-        let count = over_flags(places);
-        sets = sets + count.sets;
-        differ = differ + count.differ;
+        refused = refused + 1;
+        differ = differ + over_kind(set, kind_of(number % 7));
     }
-    Count { sets, differ }
+    Count {
+        held,
+        refused,
+        differ,
+    }
 }
 
 fn main() {
     let count = over_places();
-    io::print_decimal(1, count.sets);
-    io::write_all(1, b" sets, ");
-    io::print_decimal(1, count.sets * 42);
-    io::write_all(1, b" moves by value and on loan, ");
+    io::print_decimal(1, count.held);
+    io::write_all(1, b" held sets, ");
+    io::print_decimal(1, count.held * 42);
+    io::write_all(1, b" moves; ");
+    io::print_decimal(1, count.refused);
+    io::write_all(1, b" sets that are not held, ");
+    io::print_decimal(1, count.refused * 6);
+    io::write_all(1, b" moves; by value and on loan, ");
     io::print_decimal(1, count.differ);
     io::write_all(1, b" differ\n");
 }

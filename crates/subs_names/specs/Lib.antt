@@ -1,2 +1,4 @@
 pub mod Names
+pub mod KindNames
 pub mod NamesLaws
+pub mod KindNamesLaws

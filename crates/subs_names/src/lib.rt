@@ -1,8 +1,10 @@
 // The names of the kinds and of the groups of kinds that a subs text may hold, looked up byte for byte.
+use substitutions::Subs;
 ghost use mathlib.Core.Path.{_≡_};
-ghost use Prim.Native.Nat.{_≤_, _-_};
-ghost use lib.ListN.{length, take, drop};
+ghost use Prim.Native.Nat.{_≤_};
+ghost use lib.ListN.{length};
 ghost use Rattle.subs_names.specs.Names.{same, lookupOf};
+ghost use Rattle.subs_names.specs.KindNames.{nameOf, padded, copied};
 
 // A name of one kind or of a group of kinds.
 pub enum StepOrGroup {
@@ -77,10 +79,36 @@ pub fn look_up(name: &[u8]) -> Lookup
     Lookup::Unknown
 }
 
-// The name that stands from `start` up to `end`.
-pub fn look_up_in(text: &[u8], start: usize, end: usize) -> Lookup
-    requires { ⌜ (start ≤ end) × (end ≤ length (now text)) ⌝ }
-    ensures { λ r. ⌜ r ≡ lookupOf (take (end - start) (drop start (now (text .entry)))) ⌝ }
+// A kind's name: its bytes, then 0, on as many places as the longest name has.
+pub struct KindName {
+    pub bytes: [u8; 17],
+    pub length: usize,
+}
+
+// A name copied over zeros.
+fn copied(name: &[u8]) -> KindName
+    requires { ⌜ length (now name) ≤ 17 ⌝ }
+    ensures { λ r. ⌜ r ≡ copied (now (name .entry)) ⌝ }
 {
-    look_up(&text[start..end])
+    let mut bytes = [0u8; 17];
+    let mut i: usize = 0;
+    while i < name.len() {
+        bytes[i] = name[i];
+        i = i + 1;
+    }
+    KindName { bytes, length: i }
+}
+
+pub fn name_of(sub: Subs) -> KindName
+    ensures { λ r. ⌜ r ≡ padded (nameOf sub) ⌝ }
+{
+    match sub {
+        Subs::SpecialChars => copied(b"specialchars"),
+        Subs::InlineFormatting => copied(b"quotes"),
+        Subs::AttrRefs => copied(b"attributes"),
+        Subs::CharReplacement => copied(b"replacements"),
+        Subs::Macros => copied(b"macros"),
+        Subs::PostReplacement => copied(b"post_replacements"),
+        Subs::Callouts => copied(b"callouts"),
+    }
 }

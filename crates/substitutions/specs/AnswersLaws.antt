@@ -7,6 +7,7 @@ use native.Mathlib.Omega.{arith}
 use borrow.Author.Tests.{ne-eqb, eqb-true, lt-ltb, le-ltb}
 use lib.Dec.{eqb}
 use lib.ListN.{length}
+use Rattle.refusals.specs.Refusals.{setNotHeld, setNotSound}
 use Rattle.substitutions.specs.declared.Substitutions.{Substitutions}
 use Rattle.substitutions.specs.declared.Mode.{Mode}
 use Rattle.substitutions.specs.declared.Mode.the-variants.{Port, Sheet}
@@ -14,9 +15,8 @@ use Rattle.substitutions.specs.Kinds.{flagOf, flagged}
 use Rattle.substitutions.specs.Held.{held, sound, empty}
 use Rattle.substitutions.specs.Moves.{set, filled, without, led, insertOf, removeOf, prependOf, refusalOf, answer}
 use Rattle.substitutions.specs.KindsLaws.{and-left, and-right}
-use Rattle.substitutions.specs.HeldLaws.{held-is, sound-is, facts}
-use Rattle.substitutions.specs.Walks.{left, leftOver, few, normalPlaces}
-use Rattle.substitutions.specs.MovesLaws.{insert-held, remove-held, prepend-held}
+use Rattle.substitutions.specs.HeldLaws.{held-is, sound-is}
+use Rattle.substitutions.specs.Loops.{left, leftOver, few, normalPlaces}
 
 pub few-not : (f : ℕ) → (f ≡ 0 → ⊥) → (f ≡ 1 → ⊥) → (f ≡ 2 → ⊥) → (f ≡ 4 → ⊥) → (f ≡ 8 → ⊥) → (f ≡ 16 → ⊥) → (f ≡ 32 → ⊥) → (f ≡ 64 → ⊥)
     → few f ≡ false
@@ -66,7 +66,7 @@ normal-left s seven e n = rw (e, normal-places (s .places) seven n) refl
 
 -- The refusals, by what is left over.
 module _ (s : Substitutions) (seven : length (s .places) ≡ 7) where
-  pub refusal-10 : (m : Mode) → few (leftOver s) ≡ false → 10 ≡ refusalOf m s
+  pub refusal-10 : (m : Mode) → few (leftOver s) ≡ false → setNotHeld ≡ refusalOf m s
   unfolding refusalOf
   refusal-10 Port e = rw (held-is s seven, e)
   refusal-10 Sheet e = rw (held-is s seven, e)
@@ -79,7 +79,7 @@ module _ (s : Substitutions) (seven : length (s .places) ≡ 7) where
   unfolding refusalOf
   refusal-sheet e z = rw (held-is s seven, e, sound-is s seven, z)
 
-  pub refusal-11 : few (leftOver s) ≡ true → (leftOver s ≡ 0 → ⊥) → 11 ≡ refusalOf Sheet s
+  pub refusal-11 : few (leftOver s) ≡ true → (leftOver s ≡ 0 → ⊥) → setNotSound ≡ refusalOf Sheet s
   unfolding refusalOf
   refusal-11 e z = rw (held-is s seven, e, sound-is s seven, ne-eqb (leftOver s) 0 z)
 
@@ -88,12 +88,12 @@ pub accepted : (m : Mode) (s : Substitutions) → refusalOf m s ≡ 0 → held s
 unfolding refusalOf
 accepted Port s e = by (held s) e
   where
-    by : (t : Bool) → _≡_ {A = ℕ} (cond t 0 10) 0 → t ≡ true
+    by : (t : Bool) → _≡_ {A = ℕ} (cond t 0 setNotHeld) 0 → t ≡ true
     by true q = refl
     by false q = absurd (omega arith)
 accepted Sheet s e = by (held s) (sound s) e
   where
-    by : (t u : Bool) → _≡_ {A = ℕ} (cond t (cond u 0 11) 10) 0 → t ≡ true
+    by : (t u : Bool) → _≡_ {A = ℕ} (cond t (cond u 0 setNotSound) setNotHeld) 0 → t ≡ true
     by true u q = refl
     by false u q = absurd (omega arith)
 
@@ -133,39 +133,26 @@ prepend-on : (s : Substitutions) (k : ℕ) (p : List ℕ) → flagged k (s .flag
 unfolding prependOf
 prepend-on s k p f u = rw (f, u)
 
-module _ (s : Substitutions) (k j : ℕ) (e : k ≡ j) (a : 1 ≤ k) (b : k ≤ 7) (h : held s ≡ true) where
-  pub insert-none : (n : ℕ) → flagged k (s .flags) ≡ true → (s ≡ insertOf n j s) × (held s ≡ true)
+module _ (s : Substitutions) (k j : ℕ) (e : k ≡ j) where
+  pub insert-none : (n : ℕ) → flagged k (s .flags) ≡ true → s ≡ insertOf n j s
   unfolding insertOf
-  insert-none n f = (rw (sym e, f), h)
+  insert-none n f = rw (sym e, f)
 
-  pub insert-one : (n m w : ℕ) (p : List ℕ) → n ≡ m → 6 ≤ n → n ≤ 7 → flagged k (s .flags) ≡ false → p ≡ filled n k (s .places) → w ≡ flagOf k
-      → (set p (s .flags + w) ≡ insertOf m j s) × (held (set p (s .flags + w)) ≡ true)
-  insert-one n m w p q six le f u v =
-      let r = insert-at s n k w p f u v in
-      (rw (sym q, sym e) r, rw r (insert-held s k a b n six le h))
+  pub insert-one : (n m w : ℕ) (p : List ℕ) → n ≡ m → flagged k (s .flags) ≡ false → p ≡ filled n k (s .places) → w ≡ flagOf k
+      → set p (s .flags + w) ≡ insertOf m j s
+  insert-one n m w p q f u v = rw (sym q, sym e) (insert-at s n k w p f u v)
 
-  pub remove-none : flagged k (s .flags) ≡ false → (s ≡ removeOf j s) × (held s ≡ true)
+  pub remove-none : flagged k (s .flags) ≡ false → s ≡ removeOf j s
   unfolding removeOf
-  remove-none f = (rw (sym e, f), h)
+  remove-none f = rw (sym e, f)
 
   pub remove-one : (w : ℕ) (p : List ℕ) → flagged k (s .flags) ≡ true → p ≡ without k (s .places) → w ≡ flagOf k
-      → (set p (s .flags - w) ≡ removeOf j s) × (held (set p (s .flags - w)) ≡ true)
-  remove-one w p f u v =
-      let r = remove-at s k w p f u v in
-      (rw (sym e) r, rw r (remove-held s k a b h))
+      → set p (s .flags - w) ≡ removeOf j s
+  remove-one w p f u v = rw (sym e) (remove-at s k w p f u v)
 
-  pub prepend-flagged : (p : List ℕ) → flagged k (s .flags) ≡ true → p ≡ led k (s .places)
-      → (set p (s .flags) ≡ prependOf j s) × (held (set p (s .flags)) ≡ true)
-  prepend-flagged p f u =
-      let r = prepend-on s k p f u in
-      (rw (sym e) r, rw r (prepend-held s k a b h))
+  pub prepend-flagged : (p : List ℕ) → flagged k (s .flags) ≡ true → p ≡ led k (s .places) → set p (s .flags) ≡ prependOf j s
+  prepend-flagged p f u = rw (sym e) (prepend-on s k p f u)
 
   pub prepend-new : (w : ℕ) (p : List ℕ) → flagged k (s .flags) ≡ false → p ≡ led k (s .places) → w ≡ flagOf k
-      → (set p (s .flags + w) ≡ prependOf j s) × (held (set p (s .flags + w)) ≡ true)
-  prepend-new w p f u v =
-      let r = prepend-at s k w p f u v in
-      (rw (sym e) r, rw r (prepend-held s k a b h))
-
--- A held set has bit 7 clear.
-pub held-clear : (s : Substitutions) → held s ≡ true → s .flags < 128
-held-clear s h = facts s h .clear
+      → set p (s .flags + w) ≡ prependOf j s
+  prepend-new w p f u v = rw (sym e) (prepend-at s k w p f u v)

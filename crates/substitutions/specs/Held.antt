@@ -42,7 +42,7 @@ unfoldable pub spares : Substitutions → ℕ
 spares s = sum 7 (λ k. one (spare s k))
 
 -- A set has seven places. A held set has places of 0 to 7 only, is packed from the front, has no kind twice, a flag for
--- every kind placed, bit 7 clear, and at most one flag without a place. (`Reading.HeldSet` says it place by place.)
+-- every kind placed, bit 7 clear, and at most one flag without a place. (`HeldPlaces.HeldSet` says it place by place.)
 unfoldable pub held : Substitutions → Bool
 held s =
     eqb (length (s .places)) 7 && small (s .places) && packed (s .places) && once (s .places) && covered s && ltb (s .flags) 128

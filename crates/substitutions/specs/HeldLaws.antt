@@ -13,8 +13,8 @@ use Rattle.substitutions.specs.declared.Substitutions.{Substitutions}
 use Rattle.substitutions.specs.Kinds.{flagOf, flagged, one, sum}
 use Rattle.substitutions.specs.Held.{times, small, empty, packed, once, covered, spare, spares, held, sound}
 use Rattle.substitutions.specs.KindsLaws.{and-left, and-right, and-both, bool-eq, each-at, each-all, sum-same, sum-add, one-le, bit, flags, cleared, few-is, none-is}
-use Rattle.substitutions.specs.Walks.{few}
-use Rattle.substitutions.specs.Walks.{left, leftOver, few}
+use Rattle.substitutions.specs.Loops.{few}
+use Rattle.substitutions.specs.Loops.{left, leftOver, few}
 
 -- No kind stands in more places than it has flags: no kind twice, and a flag for every kind placed.
 abbrev pub Within : ℕ → List ℕ → Type 0

@@ -1,9 +1,11 @@
 -- The seven kinds, their numbers and their flags.
 use Prim.Native.Nat.{ℕ, zero, suc, _+_, _-_, _/_, _%_, _^_}
-use mathlib.Core.Bool.{Bool, true, false, _&&_}
+use mathlib.Core.Bool.{Bool, true, false, cond, _&&_}
 use lib.Dec.{eqb}
 use Rattle.substitutions.specs.declared.Subs.{Subs}
 use Rattle.substitutions.specs.declared.Subs.the-variants.{SpecialChars, InlineFormatting, AttrRefs, CharReplacement, Macros, PostReplacement, Callouts}
+use Rattle.substitutions.specs.declared.Numbered.{Numbered}
+use Rattle.substitutions.specs.declared.Numbered.the-variants.{Kind, NoKind}
 
 -- Kinds 1 to 7: specialchars, quotes, attributes, replacements, macros, post_replacements, callouts.
 abbrev pub numberOf : Subs → ℕ
@@ -14,6 +16,18 @@ numberOf CharReplacement = 4
 numberOf Macros = 5
 numberOf PostReplacement = 6
 numberOf Callouts = 7
+
+-- The kind of a number: 1 to 7 have one, no other number has.
+unfoldable pub kindOf : ℕ → Numbered
+kindOf n =
+    cond (eqb n 1) (Kind SpecialChars)
+    (cond (eqb n 2) (Kind InlineFormatting)
+    (cond (eqb n 3) (Kind AttrRefs)
+    (cond (eqb n 4) (Kind CharReplacement)
+    (cond (eqb n 5) (Kind Macros)
+    (cond (eqb n 6) (Kind PostReplacement)
+    (cond (eqb n 7) (Kind Callouts)
+    NoKind))))))
 
 -- Kind k has flag 2 to the power k − 1.
 abbrev pub flagOf : ℕ → ℕ

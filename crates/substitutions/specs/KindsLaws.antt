@@ -6,8 +6,27 @@ use mathlib.Core.Bool.{Bool, true, false, cond, _&&_, false≢true}
 use native.Mathlib.Omega.{arith}
 use borrow.Author.Tests.{eqb-true, eqb-false, leb-true, ltb-true, ne-eqb, lt-leb}
 use lib.Dec.{eqb, leb, ltb}
-use Rattle.substitutions.specs.Kinds.{flagOf, flagged, one, each, sum}
-use Rattle.substitutions.specs.Walks.{few}
+use Rattle.substitutions.specs.declared.Subs.{Subs}
+use Rattle.substitutions.specs.declared.Subs.the-variants.{SpecialChars, InlineFormatting, AttrRefs, CharReplacement, Macros, PostReplacement, Callouts}
+use Rattle.substitutions.specs.declared.Numbered.the-variants.{Kind, NoKind}
+use Rattle.substitutions.specs.Kinds.{numberOf, kindOf, flagOf, flagged, one, each, sum}
+use Rattle.substitutions.specs.Loops.{few}
+
+-- A kind's number names it, and a number names no other kind.
+pub kind-numbered : (sub : Subs) → kindOf (numberOf sub) ≡ Kind sub
+unfolding kindOf
+kind-numbered SpecialChars = refl
+kind-numbered InlineFormatting = refl
+kind-numbered AttrRefs = refl
+kind-numbered CharReplacement = refl
+kind-numbered Macros = refl
+kind-numbered PostReplacement = refl
+kind-numbered Callouts = refl
+
+pub no-kind : (n : ℕ) → (n ≡ 1 → ⊥) → (n ≡ 2 → ⊥) → (n ≡ 3 → ⊥) → (n ≡ 4 → ⊥) → (n ≡ 5 → ⊥) → (n ≡ 6 → ⊥) → (n ≡ 7 → ⊥) → NoKind ≡ kindOf n
+unfolding kindOf
+no-kind n n1 n2 n3 n4 n5 n6 n7 =
+    rw (ne-eqb n 1 n1, ne-eqb n 2 n2, ne-eqb n 3 n3, ne-eqb n 4 n4, ne-eqb n 5 n5, ne-eqb n 6 n6, ne-eqb n 7 n7)
 
 pub and-left : (a b : Bool) → a && b ≡ true → a ≡ true
 and-left true b e = refl
@@ -91,7 +110,7 @@ below-at (suc n) test e f h = by (eqb f n) refl (λ h. below-at n test (and-righ
 unfoldable right : ℕ → ℕ → ℕ → Bool
 right f k j =
     cond (flagged k f)
-    (leb (flagOf k) f && eqb (one (eqb k j) + bit j (f - flagOf k)) (bit j f))
+    (eqb (one (eqb k j) + bit j (f - flagOf k)) (bit j f))
     (ltb (f + flagOf k) 128 && eqb (bit j (f + flagOf k)) (one (eqb k j) + bit j f))
 
 flags-right : below 128 (λ f. each 7 (λ k. each 7 (right f k))) ≡ true
@@ -105,7 +124,7 @@ right-at f k j h a b p q =
 module _ (f k j : ℕ) (h : f < 128) (a : 1 ≤ k) (b : k ≤ 7) (p : 1 ≤ j) (q : j ≤ 7) where
   pub cleared : flagged k f ≡ true → one (eqb k j) + bit j (f - flagOf k) ≡ bit j f
   unfolding right
-  cleared e = eqb-true _ _ (and-right (leb (flagOf k) f) _ (rw e at (right-at f k j h a b p q)))
+  cleared e = eqb-true _ _ (rw e at (right-at f k j h a b p q))
 
   pub added : flagged k f ≡ false → bit j (f + flagOf k) ≡ one (eqb k j) + bit j f
   unfolding right
@@ -115,9 +134,24 @@ pub added-below : (f k : ℕ) → f < 128 → 1 ≤ k → k ≤ 7 → flagged k 
 unfolding right
 added-below f k h a b e = ltb-true _ _ (and-left (ltb (f + flagOf k) 128) _ (rw e at (right-at f k 1 h a b (omega arith) (omega arith))))
 
-pub flag-within : (f k : ℕ) → f < 128 → 1 ≤ k → k ≤ 7 → flagged k f ≡ true → flagOf k ≤ f
-unfolding right
-flag-within f k h a b e = leb-true _ _ (and-left (leb (flagOf k) f) _ (rw e at (right-at f k 1 h a b (omega arith) (omega arith))))
+-- A flag set where it was clear fits a byte, and one that is set can be taken off: computed over all bytes.
+unfoldable fits : ℕ → ℕ → Bool
+fits f k = cond (flagged k f) (leb (flagOf k) f) (ltb (f + flagOf k) 256)
+
+fits-right : below 256 (λ f. each 7 (fits f)) ≡ true
+unfolding below each fits flagged
+fits-right = refl
+
+fits-at : (f k : ℕ) → f < 256 → 1 ≤ k → k ≤ 7 → fits f k ≡ true
+fits-at f k h a b = each-at 7 (fits f) (below-at 256 (λ f. each 7 (fits f)) fits-right f h) k a b
+
+pub flag-fits : (f k : ℕ) → f < 256 → 1 ≤ k → k ≤ 7 → flagged k f ≡ false → f + flagOf k < 256
+unfolding fits
+flag-fits f k h a b e = ltb-true _ _ (rw e at (fits-at f k h a b))
+
+pub flag-within : (f k : ℕ) → f < 256 → 1 ≤ k → k ≤ 7 → flagged k f ≡ true → flagOf k ≤ f
+unfolding fits
+flag-within f k h a b e = leb-true _ _ (rw e at (fits-at f k h a b))
 
 abbrev pub flags : ℕ → ℕ
 flags f = sum 7 (λ k. bit k f)

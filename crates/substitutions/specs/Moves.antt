@@ -4,6 +4,7 @@ use mathlib.Core.Bool.{cond}
 use mathlib.Core.List.{List, [], _∷_, _++_}
 use lib.Dec.{eqb}
 use lib.ListN.{length, take}
+use Rattle.refusals.specs.Refusals.{setNotHeld, setNotSound}
 use Rattle.substitutions.specs.declared.Substitutions.{Substitutions}
 use Rattle.substitutions.specs.declared.SetAnswer.{SetAnswer}
 use Rattle.substitutions.specs.declared.Subs.{Subs}
@@ -53,8 +54,8 @@ prependOf k s = set (led k (s .places)) (cond (flagged k (s .flags)) (s .flags) 
 
 -- The set is turned away with 10 exactly when it is not held, in sheet mode with 11 exactly when it is held but not sound.
 unfoldable pub refusalOf : Mode → Substitutions → ℕ
-refusalOf Port s = cond (held s) 0 10
-refusalOf Sheet s = cond (held s) (cond (sound s) 0 11) 10
+refusalOf Port s = cond (held s) 0 setNotHeld
+refusalOf Sheet s = cond (held s) (cond (sound s) 0 setNotSound) setNotHeld
 
 -- A refusal gives its number and the set given.
 abbrev pub refusedWith : ℕ → Substitutions → SetAnswer

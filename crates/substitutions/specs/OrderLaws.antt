@@ -1,26 +1,27 @@
 -- The order of the kinds, and what the moves do to it: insert twice is insert once; remove after insert gives the set
--- back; insert puts the kind last, remove takes it out, prepend puts it first, and the others keep their order.
+-- back; insert puts the kind last, remove takes it out, prepend puts it first, and the others keep their order. A sound set
+-- is the set of its order.
 use Prim.Native.Nat.{ℕ, zero, suc, _+_, _-_, _≤_, _<_}
 use mathlib.Core.Path.{_≡_, refl, sym, ap, _∙_}
-use mathlib.Core.Bool.{Bool, true, false, cond}
+use mathlib.Core.Bool.{Bool, true, false, cond, not, _&&_}
 use mathlib.Core.List.{List, [], _∷_, _++_}
 use native.Mathlib.Omega.{arith}
-use borrow.Author.Tests.{eqb-true, eqb-false, eq-eqb, ne-eqb}
-use lib.Dec.{eqb}
-use lib.ListN.{length, take}
+use borrow.Author.Tests.{not-true, eqb-true, eqb-false, leb-true, eq-eqb, ne-eqb}
+use lib.Dec.{eqb, leb}
+use lib.ListN.{length, take, replicate}
 use Rattle.substitutions.specs.declared.Substitutions.{Substitutions}
-use Rattle.substitutions.specs.Kinds.{flagOf, flagged, one}
-use Rattle.substitutions.specs.Held.{times, empty, packed, held}
+use Rattle.substitutions.specs.Kinds.{flagOf, flagged, one, each}
+use Rattle.substitutions.specs.Held.{times, empty, packed, held, sound}
 use Rattle.substitutions.specs.Moves.{set, filled, without, led, insertOf, removeOf, prependOf}
-use Rattle.substitutions.specs.KindsLaws.{and-left, and-right, one-le, added}
-use Rattle.substitutions.specs.HeldLaws.{facts, times-cons}
-use Rattle.substitutions.specs.MovesLaws.{count, count-cons, empty-all, take-empty, without-out, without-packed, without-length, without-count, absent}
+unfoldable pub use Rattle.substitutions.specs.Order.{orderOf}
+use Rattle.substitutions.specs.Order.{flagsOf, setOf}
+use Rattle.substitutions.specs.Loops.{left, leftOver}
+use Rattle.substitutions.specs.KindsLaws.{and-left, and-right, one-le, each-at, bit, added, flag-within}
+use Rattle.substitutions.specs.HeldLaws.{facts, times-cons, left-good, sound-is}
+use Rattle.substitutions.specs.AnswersLaws.{left-small}
+use Rattle.substitutions.specs.MovesLaws.{count, count-cons, empty-all, take-empty, without-out, without-packed, without-length, without-count, absent, unplaced-count, sound-held}
 
--- The kinds in the order of their places, and those of a list other than k.
-unfoldable pub orderOf : List ℕ → List ℕ
-orderOf [] = []
-orderOf (p ∷ ps) = cond (eqb p 0) (orderOf ps) (p ∷ orderOf ps)
-
+-- The kinds of a list other than k.
 unfoldable pub others : ℕ → List ℕ → List ℕ
 others k [] = []
 others k (p ∷ ps) = cond (eqb p k) (others k ps) (p ∷ others k ps)
@@ -154,3 +155,66 @@ module _ (s : Substitutions) (k : ℕ) (a : 1 ≤ k) (b : k ≤ 7) (e : held s �
       rw (sym l)
       (front-order k w a (without-packed k (s .places) a (h .packed)) (omega (arith, l, h .seven, without-count s k a b h))
       ∙ ap (λ (l : List ℕ). k ∷ l) (without-order k (s .places) a (omega (arith, h .within k a b, one-le (flagged k (s .flags))))))
+
+  -- With seven places insert always finds one.
+  pub insert-seven : flagged k (s .flags) ≡ false → orderOf (insertOf 7 k s .places) ≡ orderOf (s .places) ++ (k ∷ [])
+  insert-seven f =
+      let h = facts s e in
+      insert-last 7 f (omega (arith, unplaced-count s k a b h (absent s k a b h f))) (omega arith)
+
+-- A sound set is the set of its order: each place in turn takes its kind's flag, and none is left.
+sound-left : (s : Substitutions) → sound s ≡ true → left (s .flags) (s .places) ≡ 0
+sound-left s e =
+    let h = facts s (sound-held s e) in
+    left-small s (h .clear) ∙ eqb-true (leftOver s) 0 (sym (sound-is s (h .seven)) ∙ e)
+
+taken : (t : Bool) (x : ℕ) → cond t x 255 ≡ 0 → (t ≡ true) × (x ≡ 0)
+taken true x e = (refl, e)
+taken false x e = absurd (omega arith)
+
+zeros : (ps : List ℕ) → empty ps ≡ true → replicate (length ps) 0 ≡ ps
+unfolding empty
+zeros [] e = refl
+zeros (p ∷ ps) e =
+    rw (eqb-true p 0 (and-left (eqb p 0) (empty ps) e)) (ap (λ (l : List ℕ). 0 ∷ l) (zeros ps (and-right (eqb p 0) (empty ps) e)))
+
+abbrev Ordered : ℕ → List ℕ → Type 0
+Ordered f ps = (orderOf ps ++ replicate (length ps - length (orderOf ps)) 0 ≡ ps) × (flagsOf (orderOf ps) ≡ f)
+
+left-order : (f : ℕ) (ps : List ℕ) → f < 128 → left f ps ≡ 0 → Ordered f ps
+unfolding left orderOf flagsOf
+left-order f [] h e = (refl, sym e)
+left-order f (p ∷ ps) h e = by (eqb p 0) refl (left-order (f - flagOf p) ps)
+  where
+    by : (t : Bool) → eqb p 0 ≡ t → (f - flagOf p < 128 → left (f - flagOf p) ps ≡ 0 → Ordered (f - flagOf p) ps) → Ordered f (p ∷ ps)
+    by true q ih =
+        let z = taken (empty ps) f (rw q at e) in
+        let m : suc (length ps) - 0 ≡ suc (length ps) = omega arith in
+        rw (q, empty-order ps (z .0), m) (zeros (p ∷ ps) (empty-all p ps q (z .0)), sym (z .1))
+    by false q ih =
+        let z = taken (leb p 7 && flagged p f) (left (f - flagOf p) ps) (rw q at e) in
+        let r = ih (omega arith) (z .1) in
+        let b : p ≤ 7 = leb-true p 7 (and-left (leb p 7) (flagged p f) (z .0)) in
+        let w = flag-within f p (omega (arith, h)) (omega (arith, eqb-false p 0 q)) b (and-right (leb p 7) (flagged p f) (z .0)) in
+        let m : suc (length ps) - suc (length (orderOf ps)) ≡ length ps - length (orderOf ps) = omega arith in
+        rw (q, m) (ap (λ (l : List ℕ). p ∷ l) (r .0), omega (arith, r .1, w))
+
+pub sound-set : (s : Substitutions) → sound s ≡ true → setOf (orderOf (s .places)) ≡ s
+sound-set s e =
+    let h = facts s (sound-held s e) in
+    let r = left-order (s .flags) (s .places) (h .clear) (sound-left s e) in
+    let p : setOf (orderOf (s .places)) .places ≡ s .places = rw (h .seven) at (r .0) in
+    λ i. record { places = p i; flags = r .1 i }
+
+-- Its kinds are those that have a flag.
+none-right : each 7 (λ k. not (flagged k 0)) ≡ true
+unfolding each flagged
+none-right = refl
+
+pub sound-times : (s : Substitutions) (k : ℕ) → 1 ≤ k → k ≤ 7 → sound s ≡ true → times k (s .places) ≡ one (flagged k (s .flags))
+sound-times s k a b e =
+    let h = facts s (sound-held s e) in
+    let l = left-good (s .flags) (s .places) (h .clear) (h .small) (h .packed) (h .within) .1 k a b in
+    let z : flagged k 0 ≡ false = not-true (flagged k 0) (each-at 7 (λ k. not (flagged k 0)) none-right k a b) in
+    let n : bit k (left (s .flags) (s .places)) ≡ 0 = rw (sound-left s e, z) in
+    omega (arith, l, n)

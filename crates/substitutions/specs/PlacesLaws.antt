@@ -11,7 +11,7 @@ use lib.ListN.{length, getD, take, drop, take-append-drop, drop-of-length-le}
 use lib.ListN as L
 use lib.Seq.{set-split, drop-cons, take-suc, take-suc-set, drop-set-lt, append-snoc, take-all, take-append-seam}
 use Rattle.substitutions.specs.Moves.{filled, without}
-use Rattle.substitutions.specs.Walks.{closed, pushed}
+use Rattle.substitutions.specs.Loops.{closed, pushed}
 
 pub pushed-is : (x k : ℕ) (l : List ℕ) → pushed x k l ≡ take (length l) (x ∷ without k l)
 unfolding pushed without

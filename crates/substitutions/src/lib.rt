@@ -1,23 +1,21 @@
 // A substitution set: seven places and a flag byte, by value, and its three moves in port and in sheet mode.
 mod flags;
+pub mod has;
 mod places;
 mod rules;
+pub mod starting;
+pub mod unchecked;
 
-use crate::flags::flag_of;
 use crate::flags::is_flagged;
-use crate::places::fill;
-use crate::places::lead;
-use crate::places::take_out;
 use crate::rules::at_most_one;
 use crate::rules::is_normal;
 use crate::rules::take_flags;
 ghost use mathlib.Core.Path.{_≡_};
-ghost use mathlib.Core.Bool.{true};
 ghost use Prim.Native.Nat.{_≤_, _<_};
-ghost use Rattle.substitutions.specs.Kinds.{numberOf, flagged};
+ghost use Rattle.substitutions.specs.Kinds.{numberOf, kindOf, flagged};
 ghost use Rattle.substitutions.specs.Held.{held, sound};
-ghost use Rattle.substitutions.specs.Moves.{empty-set, room, insertOf, removeOf, prependOf, refusalOf, refusedWith, insertAnswer, removeAnswer, prependAnswer};
-ghost use Rattle.substitutions.specs.Walks.{leftOver};
+ghost use Rattle.substitutions.specs.Moves.{refusalOf, refusedWith, insertAnswer, removeAnswer, prependAnswer};
+ghost use Rattle.substitutions.specs.Loops.{leftOver};
 
 // Kinds 1 to 7, in this order.
 pub enum Subs {
@@ -28,6 +26,12 @@ pub enum Subs {
     Macros,
     PostReplacement,
     Callouts,
+}
+
+// What a number names: a kind, or none.
+pub enum Numbered {
+    Kind(Subs),
+    NoKind,
 }
 
 // Port mode is the Rust's, with six places to insert into; sheet mode has seven.
@@ -64,33 +68,26 @@ pub fn number(sub: Subs) -> u8
     }
 }
 
+pub fn kind_of(number: u8) -> Numbered
+    ensures { λ r. ⌜ r ≡ kindOf number ⌝ }
+{
+    match number {
+        1 => Numbered::Kind(Subs::SpecialChars),
+        2 => Numbered::Kind(Subs::InlineFormatting),
+        3 => Numbered::Kind(Subs::AttrRefs),
+        4 => Numbered::Kind(Subs::CharReplacement),
+        5 => Numbered::Kind(Subs::Macros),
+        6 => Numbered::Kind(Subs::PostReplacement),
+        7 => Numbered::Kind(Subs::Callouts),
+        _ => Numbered::NoKind,
+    }
+}
+
 // Whether the set has the flag of a kind.
 pub fn contains(set: Substitutions, sub: Subs) -> bool
     ensures { λ r. ⌜ r ≡ flagged (numberOf sub) (set .flags) ⌝ }
 {
     is_flagged(number(sub), set.flags)
-}
-
-// The places that insert may fill.
-fn places_to_fill(mode: Mode) -> usize
-    ensures { λ r. ⌜ r ≡ room mode ⌝ }
-    ensures within { λ r. ⌜ (6 ≤ r) × (r ≤ 7) ⌝ }
-{
-    match mode {
-        Mode::Port => 6,
-        Mode::Sheet => 7,
-    }
-}
-
-// The empty set.
-pub fn none() -> Substitutions
-    ensures { λ r. ⌜ r ≡ empty-set ⌝ }
-    ensures held { λ r. ⌜ held r ≡ true ⌝ }
-{
-    Substitutions {
-        places: [0u8; 7],
-        flags: 0,
-    }
 }
 
 // The flags that no place has taken, or 255 where a place breaks a rule or bit 7 is set.
@@ -129,11 +126,15 @@ pub fn refusal(mode: Mode, set: Substitutions) -> usize
 {
     let left = left_over(set);
     if !at_most_one(left) {
-        return 10;
+        return refusals::SET_NOT_HELD;
     }
     match mode {
         Mode::Port => 0,
-        Mode::Sheet => if left == 0 { 0 } else { 11 },
+        Mode::Sheet => if left == 0 {
+            0
+        } else {
+            refusals::SET_NOT_SOUND
+        },
     }
 }
 
@@ -147,62 +148,8 @@ pub fn refused(number: usize, set: Substitutions) -> SetAnswer
     }
 }
 
-// The moves on a set that is known to be held; `insert`, `remove` and `prepend` below find out first.
-pub fn insert_held(mode: Mode, set: Substitutions, sub: Subs) -> Substitutions
-    requires { ⌜ held set ≡ true ⌝ }
-    ensures { λ r. ⌜ r ≡ insertOf (room mode) (numberOf sub) set ⌝ }
-    ensures held { λ r. ⌜ held r ≡ true ⌝ }
-{
-    let k = number(sub);
-    let flags = set.flags;
-    if is_flagged(k, flags) {
-        return set;
-    }
-    let places = set.places;
-    let filled = fill(places, places_to_fill(mode), k);
-    Substitutions {
-        places: filled,
-        flags: flags + flag_of(k),
-    }
-}
-
-pub fn remove_held(set: Substitutions, sub: Subs) -> Substitutions
-    requires { ⌜ held set ≡ true ⌝ }
-    ensures { λ r. ⌜ r ≡ removeOf (numberOf sub) set ⌝ }
-    ensures held { λ r. ⌜ held r ≡ true ⌝ }
-{
-    let k = number(sub);
-    let flags = set.flags;
-    if !is_flagged(k, flags) {
-        return set;
-    }
-    let places = set.places;
-    let closed = take_out(places, k);
-    Substitutions {
-        places: closed,
-        flags: flags - flag_of(k),
-    }
-}
-
-pub fn prepend_held(set: Substitutions, sub: Subs) -> Substitutions
-    requires { ⌜ held set ≡ true ⌝ }
-    ensures { λ r. ⌜ r ≡ prependOf (numberOf sub) set ⌝ }
-    ensures held { λ r. ⌜ held r ≡ true ⌝ }
-{
-    let k = number(sub);
-    let flags = set.flags;
-    let places = set.places;
-    let led = lead(places, k);
-    if is_flagged(k, flags) {
-        return Substitutions { places: led, flags };
-    }
-    Substitutions {
-        places: led,
-        flags: flags + flag_of(k),
-    }
-}
-
-fn insert_in(mode: Mode, set: Substitutions, sub: Subs) -> SetAnswer
+// The moves in either mode: a refusal, or what the move gives.
+pub fn insert_in(mode: Mode, set: Substitutions, sub: Subs) -> SetAnswer
     ensures { λ r. ⌜ r ≡ insertAnswer mode set sub ⌝ }
 {
     let n = refusal(mode, set);
@@ -211,11 +158,11 @@ fn insert_in(mode: Mode, set: Substitutions, sub: Subs) -> SetAnswer
     }
     SetAnswer {
         refusal: 0,
-        set: insert_held(mode, set, sub),
+        set: unchecked::insert(mode, set, sub),
     }
 }
 
-fn remove_in(mode: Mode, set: Substitutions, sub: Subs) -> SetAnswer
+pub fn remove_in(mode: Mode, set: Substitutions, sub: Subs) -> SetAnswer
     ensures { λ r. ⌜ r ≡ removeAnswer mode set sub ⌝ }
 {
     let n = refusal(mode, set);
@@ -224,11 +171,11 @@ fn remove_in(mode: Mode, set: Substitutions, sub: Subs) -> SetAnswer
     }
     SetAnswer {
         refusal: 0,
-        set: remove_held(set, sub),
+        set: unchecked::remove(set, sub),
     }
 }
 
-fn prepend_in(mode: Mode, set: Substitutions, sub: Subs) -> SetAnswer
+pub fn prepend_in(mode: Mode, set: Substitutions, sub: Subs) -> SetAnswer
     ensures { λ r. ⌜ r ≡ prependAnswer mode set sub ⌝ }
 {
     let n = refusal(mode, set);
@@ -237,7 +184,7 @@ fn prepend_in(mode: Mode, set: Substitutions, sub: Subs) -> SetAnswer
     }
     SetAnswer {
         refusal: 0,
-        set: prepend_held(set, sub),
+        set: unchecked::prepend(set, sub),
     }
 }
 

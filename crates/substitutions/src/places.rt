@@ -2,7 +2,7 @@
 ghost use mathlib.Core.Path.{_≡_};
 ghost use Prim.Native.Nat.{_≤_, _<_};
 ghost use Rattle.substitutions.specs.Moves.{filled, without, led};
-ghost use Rattle.substitutions.specs.Walks.{closed};
+ghost use Rattle.substitutions.specs.Loops.{closed};
 
 // The first empty place among the first n is filled with k.
 pub fn fill(places: [u8; 7], n: usize, k: u8) -> [u8; 7]

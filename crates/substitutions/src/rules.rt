@@ -5,7 +5,7 @@ ghost use mathlib.Core.Path.{_≡_};
 ghost use Prim.Native.Nat.{_≤_, _<_};
 ghost use lib.ListN.{drop};
 ghost use Rattle.substitutions.specs.Held.{empty};
-ghost use Rattle.substitutions.specs.Walks.{few, left, normalPlaces};
+ghost use Rattle.substitutions.specs.Loops.{few, left, normalPlaces};
 
 // Whether all places from `from` on are empty.
 pub fn rest_empty(places: [u8; 7], from: usize) -> bool

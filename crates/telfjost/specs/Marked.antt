@@ -26,7 +26,7 @@ use Rattle.substitutions.specs.Moves as substitutions-moves
 use Rattle.token.specs.Line as token-line
 use Rattle.token.specs.Names as token-names
 use Rattle.token.specs.Run as token-run
-use Rattle.customize_subs.specs.Cases as customize-subs-cases
+use Rattle.customize_subs.specs.Examples as customize-subs-cases
 
 -- ---- the lines
 

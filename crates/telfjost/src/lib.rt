@@ -1,5 +1,6 @@
 // What C and Rust link. Each function restates, in its own numbers, the contract of what it calls.
 mod lists;
+mod sets;
 mod subs;
 
 use attr_list::BlockLine;

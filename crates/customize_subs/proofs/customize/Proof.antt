@@ -11,8 +11,9 @@ use Rattle.subs_names.specs.declared.Lookup.the-variants.{Found, Unknown}
 use Rattle.customize_subs.specs.Text.{split}
 use Rattle.customize_subs.specs.Customizing.{through}
 use Rattle.customize_subs.specs.TextLaws.{parts-all}
-use Rattle.customize_subs.specs.Walks.{between, partsFrom}
+use Rattle.customize_subs.specs.Places.{between, partsFrom}
 use Rattle.customize_subs.specs.CustomizingLaws.{turn-short, turn-name, turns-over}
+use Rattle.customize_subs.specs.MetaLaws.{entered-held}
 use Rattle.customize_subs.proofs.customize.Statement.{statement}
 use Rattle.customize_subs.proofs.customize.Tie as tie
 
@@ -49,7 +50,7 @@ loop-again c =
     let l = c .before .before .before .before .before .loop in
     let a = c .before .before .before .before .before .before .before .args in
     let t = a .text .now in
-    (omega arith, (l .inv .1 .0, turn-short (a .mode) (l .next) t (l .start) (k .result) (omega arith) (k .ensures .0) (p .result .start) (p .result .end) (omega arith) (p .ensures .0) (c .if1 .taken) ∙ l .inv .1 .1))
+    (omega arith, (l .inv .1 .0, turn-short (a .mode) (l .next) t (l .start) (k .result) (omega arith) (k .ensures .0) (p .result .start) (p .result .end) (omega arith) (p .ensures .0 .part) (c .if1 .taken) ∙ l .inv .1 .1))
 
 name-at-requires : tie.Need-name-at-requires Inv-loop μ-loop
 name-at-requires c κs = search needs
@@ -78,7 +79,7 @@ loop-again-2 c =
       omega arith,
       (
         l .inv .1 .0,
-        turn-name (a .mode) (l .next) t (l .start) (k .result) (omega arith) (k .ensures .0) (p .result .start) (p .result .end) (omega arith) (p .ensures .0) (n .result .strategy) Unknown _ (l .next) (c .before .before .before .before .if1 .left) (n .ensures .0) (n .ensures .1 .0)
+        turn-name (a .mode) (l .next) t (l .start) (k .result) (omega arith) (k .ensures .0) (p .result .start) (p .result .end) (omega arith) (p .ensures .0 .part) (n .result .strategy) Unknown _ (l .next) (c .before .before .before .before .if1 .left) (n .ensures .0 .strategy) (n .ensures .0 .name)
             (sym (c .enum-told .given .1) ∙ c .before .before .look-up-in .ensures) refl
             ∙ l .inv .1 .1,
       ),
@@ -101,9 +102,9 @@ loop-again-3 c =
     let n = c .before .before .before .before .before .name-at in (
       omega arith,
       (
-        c .enter .ensures .1,
-        turn-name (a .mode) (l .next) t (l .start) (k .result) (omega arith) (k .ensures .0) (p .result .start) (p .result .end) (omega arith) (p .ensures .0) (n .result .strategy) (Found (c .before .before .step .given .0 .0)) _ (c .enter .result) (c .before .before .before .before .before .before .if1 .left) (n .ensures .0) (n .ensures .1 .0)
-            (sym (c .before .before .step .given .1) ∙ c .before .before .before .before .look-up-in .ensures) (c .enter .ensures .0)
+        ap held (c .enter .ensures) ∙ entered-held (a .mode) (n .result .strategy) (c .before .before .step .given .0 .0) (l .next) (l .inv .1 .0),
+        turn-name (a .mode) (l .next) t (l .start) (k .result) (omega arith) (k .ensures .0) (p .result .start) (p .result .end) (omega arith) (p .ensures .0 .part) (n .result .strategy) (Found (c .before .before .step .given .0 .0)) _ (c .enter .result) (c .before .before .before .before .before .before .if1 .left) (n .ensures .0 .strategy) (n .ensures .0 .name)
+            (sym (c .before .before .step .given .1) ∙ c .before .before .before .before .look-up-in .ensures) (c .enter .ensures)
             ∙ l .inv .1 .1,
       ),
     )
@@ -112,7 +113,7 @@ returns : tie.Need-returns Inv-loop μ-loop
 returns c =
     let l = c .before .loop in
     let a = c .before .before .before .args in
-    (sym (turns-over (a .mode) (l .next) (a .text .now) (l .start) (c .loop-test .left)) ∙ l .inv .1 .1, l .inv .1 .0)
+    sym (turns-over (a .mode) (l .next) (a .text .now) (l .start) (c .loop-test .left)) ∙ l .inv .1 .1
 
 pub customize-spec : {M : Type 1} → statement M
 customize-spec =

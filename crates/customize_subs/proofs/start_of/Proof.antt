@@ -14,21 +14,21 @@ returns : tie.Need-returns
 unfolding startOf
 returns c =
     let a = c .before .before .before .args in
-    (rw (modified-begins (a .text .now) (sym (c .before .begins-modified .ensures) ∙ c .if1 .taken)), c .before .before .before .pre)
+    rw (modified-begins (a .text .now) (sym (c .before .begins-modified .ensures) ∙ c .if1 .taken))
 
 has-modifier-requires : tie.Need-has-modifier-requires
 has-modifier-requires c κs = search needs
 
 returns-2 : tie.Need-returns-2
 unfolding startOf
-returns-2 c = (rw (sym (c .before .has-modifier .ensures) ∙ c .if2 .taken), c .before .before .before .before .before .pre)
+returns-2 c = rw (sym (c .before .has-modifier .ensures) ∙ c .if2 .taken)
 
 none-requires : tie.Need-none-requires
 none-requires c κs = search needs
 
 returns-3 : tie.Need-returns-3
 unfolding startOf
-returns-3 c = (rw (sym (c .before .before .has-modifier .ensures) ∙ c .before .if2 .left) (c .none .ensures .0), c .none .ensures .1)
+returns-3 c = rw (sym (c .before .before .has-modifier .ensures) ∙ c .before .if2 .left) (c .none .ensures)
 
 pub start-of-spec : {M : Type 1} → statement M
 start-of-spec =

@@ -18,17 +18,11 @@ loop-holds c = search needs
 kind-of-requires : tie.Need-kind-of-requires Inv-loop μ-loop
 kind-of-requires c κs = search needs
 
-over-port-requires : tie.Need-over-port-requires Inv-loop μ-loop
-over-port-requires c κs = search needs
+over-kind-requires : tie.Need-over-kind-requires Inv-loop μ-loop
+over-kind-requires c κs = search needs
 
 add-differ : tie.Need-add-differ Inv-loop μ-loop
 add-differ c = omega arith
-
-over-sheet-requires : tie.Need-over-sheet-requires Inv-loop μ-loop
-over-sheet-requires c κs = search needs
-
-add-differ-2 : tie.Need-add-differ-2 Inv-loop μ-loop
-add-differ-2 c = omega arith
 
 add-n : tie.Need-add-n Inv-loop μ-loop
 add-n c = omega arith
@@ -50,10 +44,8 @@ over-kinds-spec =
     μ-loop
     loop-holds
     kind-of-requires
-    over-port-requires
+    over-kind-requires
     add-differ
-    over-sheet-requires
-    add-differ-2
     add-n
     loop-less
     loop-again

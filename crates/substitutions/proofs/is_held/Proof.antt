@@ -3,7 +3,7 @@ use borrow.Author.Needs.{needs}
 use Prim.Native.Nat.{_-_}
 use mathlib.Core.Path.{sym, ap, _∙_}
 use lib.ListN.{set}
-use Rattle.substitutions.specs.Walks.{few}
+use Rattle.substitutions.specs.Loops.{few}
 use Rattle.substitutions.specs.HeldLaws.{held-is}
 use Rattle.substitutions.proofs.is_held.Statement.{statement}
 use Rattle.substitutions.proofs.is_held.Tie as tie

@@ -1,11 +1,11 @@
--- `prepend_in` refuses with the set given or gives what prepend gives. A set that is not refused is held. Assumes nothing.
+-- `prepend_in` refuses with the set given or gives what prepend gives. Assumes nothing.
 use borrow.Author.Needs.{needs}
 use Prim.Native.Nat.{_-_}
 use mathlib.Core.Path.{sym, _∙_}
 use lib.ListN.{set}
 use Rattle.substitutions.specs.Kinds.{numberOf}
 use Rattle.substitutions.specs.Moves.{prependOf, refusalOf, prependAnswer}
-use Rattle.substitutions.specs.AnswersLaws.{accepted, refused, moved-to}
+use Rattle.substitutions.specs.AnswersLaws.{refused, moved-to}
 use Rattle.substitutions.proofs.prepend_in.Statement.{statement}
 use Rattle.substitutions.proofs.prepend_in.Tie as tie
 
@@ -21,18 +21,16 @@ returns c =
     let a = c .before .before .before .args in
     c .refused .ensures ∙ refused (c .before .before .refusal .result) (refusalOf (a .mode) (a .set)) (a .set) (prependOf (numberOf (a .sub)) (a .set)) (c .before .before .refusal .ensures) (c .before .if1 .taken)
 
-prepend-held-requires : tie.Need-prepend-held-requires
-prepend-held-requires c κs =
-    let a = c .before .before .args in
-    accepted (a .mode) (a .set) (sym (c .before .refusal .ensures) ∙ c .if1 .left)
+prepend-requires : tie.Need-prepend-requires
+prepend-requires c κs = search needs
 
 returns-2 : tie.Need-returns-2
 unfolding prependAnswer
 returns-2 c =
     let a = c .before .before .before .args in
-    moved-to (refusalOf (a .mode) (a .set)) (a .set) (c .prepend-held .result) (prependOf (numberOf (a .sub)) (a .set))
-    (sym (c .before .before .refusal .ensures) ∙ c .before .if1 .left) (c .prepend-held .ensures .0)
+    moved-to (refusalOf (a .mode) (a .set)) (a .set) (c .prepend .result) (prependOf (numberOf (a .sub)) (a .set))
+    (sym (c .before .before .refusal .ensures) ∙ c .before .if1 .left) (c .prepend .ensures)
 
 pub prepend-in-spec : {M : Type 1} → statement M
 prepend-in-spec = tie.close (tie.spec refusal-requires refused-requires
-    returns prepend-held-requires returns-2)
+    returns prepend-requires returns-2)

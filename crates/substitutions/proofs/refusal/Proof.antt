@@ -4,7 +4,7 @@ use Prim.Native.Nat.{_-_}
 use mathlib.Core.Path.{sym, ap, _∙_}
 use lib.ListN.{set}
 use borrow.Author.Tests.{not-true, not-false}
-use Rattle.substitutions.specs.Walks.{few}
+use Rattle.substitutions.specs.Loops.{few}
 use Rattle.substitutions.specs.AnswersLaws.{refusal-10, refusal-port, refusal-sheet, refusal-11}
 use Rattle.substitutions.proofs.refusal.Statement.{statement}
 use Rattle.substitutions.proofs.refusal.Tie as tie

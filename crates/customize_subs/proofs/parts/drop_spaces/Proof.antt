@@ -5,7 +5,7 @@ use native.Mathlib.Omega.{arith}
 use mathlib.Core.Path.{_≡_, _∙_}
 use Rattle.customize_subs.specs.Text.{back}
 use Rattle.customize_subs.specs.TextLaws.{back-here, back-next, back-end}
-use Rattle.customize_subs.specs.Walks.{between}
+use Rattle.customize_subs.specs.Places.{between}
 use Rattle.customize_subs.proofs.parts.drop_spaces.Statement.{statement}
 use Rattle.customize_subs.proofs.parts.drop_spaces.Tie as tie
 

@@ -8,7 +8,7 @@ use lib.Dec.{eqb}
 use lib.ListN.{length, drop, getD}
 use Rattle.customize_subs.specs.Text.{modified}
 use Rattle.customize_subs.specs.TextLaws.{found-or, modified-found, modified-end}
-use Rattle.customize_subs.specs.Walks.{isModifier}
+use Rattle.customize_subs.specs.Places.{isModifier}
 use Rattle.customize_subs.proofs.parts.has_modifier.Statement.{statement}
 use Rattle.customize_subs.proofs.parts.has_modifier.Tie as tie
 

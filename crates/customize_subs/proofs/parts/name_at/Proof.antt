@@ -21,8 +21,7 @@ add-t12 c = search needs
 returns : tie.Need-returns
 returns c =
     let a = c .before .before .before .args in
-    let r = reads-plus (a .start) (a .end) (a .text .now) (omega arith) (omega arith) (c .if1 .taken) in
-    (r .0, (r .1, (omega arith, omega arith)))
+    (reads-plus (a .start) (a .end) (a .text .now) (omega arith) (omega arith) (c .if1 .taken), (omega arith, omega arith))
 
 sub-t14 : tie.Need-sub-t14
 sub-t14 c = search needs
@@ -30,8 +29,7 @@ sub-t14 c = search needs
 returns-2 : tie.Need-returns-2
 returns-2 c =
     let a = c .before .before .before .before .args in
-    let r = reads-trailing (a .start) (a .end) (a .text .now) (omega arith) (omega arith) (c .before .if1 .left) (c .if2 .taken) in
-    (r .0, (r .1, (omega arith, omega arith)))
+    (reads-trailing (a .start) (a .end) (a .text .now) (omega arith) (omega arith) (c .before .if1 .left) (c .if2 .taken), (omega arith, omega arith))
 
 add-t16 : tie.Need-add-t16
 add-t16 c = search needs
@@ -39,14 +37,12 @@ add-t16 c = search needs
 returns-3 : tie.Need-returns-3
 returns-3 c =
     let a = c .before .before .before .before .before .args in
-    let r = reads-minus (a .start) (a .end) (a .text .now) (omega arith) (omega arith) (c .before .before .if1 .left) (c .before .if2 .left) (c .if3 .taken) in
-    (r .0, (r .1, (omega arith, omega arith)))
+    (reads-minus (a .start) (a .end) (a .text .now) (omega arith) (omega arith) (c .before .before .if1 .left) (c .before .if2 .left) (c .if3 .taken), (omega arith, omega arith))
 
 returns-4 : tie.Need-returns-4
 returns-4 c =
     let a = c .before .before .before .before .before .args in
-    let r = reads-plain (a .start) (a .end) (a .text .now) (omega arith) (omega arith) (c .before .before .if1 .left) (c .before .if2 .left) (c .if3 .left) in
-    (r .0, (r .1, (omega arith, omega arith)))
+    (reads-plain (a .start) (a .end) (a .text .now) (omega arith) (omega arith) (c .before .before .if1 .left) (c .before .if2 .left) (c .if3 .left), (omega arith, omega arith))
 
 pub name-at-spec : {M : Type 1} → statement M
 name-at-spec =

@@ -5,7 +5,7 @@ use native.Mathlib.Omega.{arith}
 use mathlib.Core.Path.{_≡_}
 use lib.ListN.{length, drop}
 use Rattle.customize_subs.specs.TextLaws.{comma-here, comma-next, comma-end}
-use Rattle.customize_subs.specs.Walks.{toComma}
+use Rattle.customize_subs.specs.Places.{toComma}
 use Rattle.customize_subs.proofs.parts.next_comma.Statement.{statement}
 use Rattle.customize_subs.proofs.parts.next_comma.Tie as tie
 

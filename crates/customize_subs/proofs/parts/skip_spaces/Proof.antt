@@ -5,7 +5,7 @@ use native.Mathlib.Omega.{arith}
 use mathlib.Core.Path.{_≡_, _∙_}
 use Rattle.customize_subs.specs.Text.{front}
 use Rattle.customize_subs.specs.TextLaws.{front-stop, front-next, front-end}
-use Rattle.customize_subs.specs.Walks.{between}
+use Rattle.customize_subs.specs.Places.{between}
 use Rattle.customize_subs.proofs.parts.skip_spaces.Statement.{statement}
 use Rattle.customize_subs.proofs.parts.skip_spaces.Tie as tie
 

@@ -12,7 +12,7 @@ stays-requires c κs = search needs
 returns : tie.Need-returns
 returns c =
     let a = c .before .before .args in
-    (stays-same (a .mode) (a .strategy) _ (a .set) (sym (c .before .stays .ensures) ∙ c .if1 .taken), c .before .before .pre)
+    stays-same (a .mode) (a .strategy) _ (a .set) (sym (c .before .stays .ensures) ∙ c .if1 .taken)
 
 move-kind-requires : tie.Need-move-kind-requires
 move-kind-requires c κs = search needs

@@ -66,48 +66,48 @@ enter-kind-requires-7 c κs = search needs
 returns : tie.Need-returns
 returns c =
     let a = c .before .before .args in
-    (rw (c .enum-told .given .1) (entered-none (a .mode) (a .strategy) (a .set) (a .set)), c .before .before .pre)
+    rw (c .enum-told .given .1) (entered-none (a .mode) (a .strategy) (a .set) (a .set))
 
 returns-2 : tie.Need-returns-2
-returns-2 c = (rw (c .before .enum-told2 .given .1) (c .enter-normal .ensures .0), c .enter-normal .ensures .1)
+returns-2 c = rw (c .before .enum-told2 .given .1) (c .enter-normal .ensures)
 
 returns-3 : tie.Need-returns-3
-returns-3 c = (rw (c .before .enum-told3 .given .1) (c .enter-verbatim .ensures .0), c .enter-verbatim .ensures .1)
+returns-3 c = rw (c .before .enum-told3 .given .1) (c .enter-verbatim .ensures)
 
 returns-4 : tie.Need-returns-4
 returns-4 c =
     let a = c .before .before .before .args in
-    (rw (c .before .enum-told4 .given .1) (entered-one (a .mode) (a .strategy) (a .set) _ 1 (c .enter-kind .ensures .0)), c .enter-kind .ensures .1)
+    rw (c .before .enum-told4 .given .1) (entered-one (a .mode) (a .strategy) (a .set) _ 1 (c .enter-kind .ensures))
 
 returns-5 : tie.Need-returns-5
 returns-5 c =
     let a = c .before .before .before .args in
-    (rw (c .before .enum-told5 .given .1) (entered-one (a .mode) (a .strategy) (a .set) _ 2 (c .enter-kind2 .ensures .0)), c .enter-kind2 .ensures .1)
+    rw (c .before .enum-told5 .given .1) (entered-one (a .mode) (a .strategy) (a .set) _ 2 (c .enter-kind2 .ensures))
 
 returns-6 : tie.Need-returns-6
 returns-6 c =
     let a = c .before .before .before .args in
-    (rw (c .before .enum-told6 .given .1) (entered-one (a .mode) (a .strategy) (a .set) _ 3 (c .enter-kind3 .ensures .0)), c .enter-kind3 .ensures .1)
+    rw (c .before .enum-told6 .given .1) (entered-one (a .mode) (a .strategy) (a .set) _ 3 (c .enter-kind3 .ensures))
 
 returns-7 : tie.Need-returns-7
 returns-7 c =
     let a = c .before .before .before .args in
-    (rw (c .before .enum-told7 .given .1) (entered-one (a .mode) (a .strategy) (a .set) _ 4 (c .enter-kind4 .ensures .0)), c .enter-kind4 .ensures .1)
+    rw (c .before .enum-told7 .given .1) (entered-one (a .mode) (a .strategy) (a .set) _ 4 (c .enter-kind4 .ensures))
 
 returns-8 : tie.Need-returns-8
 returns-8 c =
     let a = c .before .before .before .args in
-    (rw (c .before .enum-told8 .given .1) (entered-one (a .mode) (a .strategy) (a .set) _ 5 (c .enter-kind5 .ensures .0)), c .enter-kind5 .ensures .1)
+    rw (c .before .enum-told8 .given .1) (entered-one (a .mode) (a .strategy) (a .set) _ 5 (c .enter-kind5 .ensures))
 
 returns-9 : tie.Need-returns-9
 returns-9 c =
     let a = c .before .before .before .args in
-    (rw (c .before .enum-told9 .given .1) (entered-one (a .mode) (a .strategy) (a .set) _ 6 (c .enter-kind6 .ensures .0)), c .enter-kind6 .ensures .1)
+    rw (c .before .enum-told9 .given .1) (entered-one (a .mode) (a .strategy) (a .set) _ 6 (c .enter-kind6 .ensures))
 
 returns-10 : tie.Need-returns-10
 returns-10 c =
     let a = c .before .before .before .args in
-    (rw (c .before .enum-told10 .given .1) (entered-one (a .mode) (a .strategy) (a .set) _ 7 (c .enter-kind7 .ensures .0)), c .enter-kind7 .ensures .1)
+    rw (c .before .enum-told10 .given .1) (entered-one (a .mode) (a .strategy) (a .set) _ 7 (c .enter-kind7 .ensures))
 
 pub enter-kinds-spec : {M : Type 1} → statement M
 enter-kinds-spec =

@@ -26,11 +26,9 @@ enter-kind-requires-6 c κs = search needs
 
 returns : tie.Need-returns
 returns c =
-    let a = c .before .before .before .before .before .before .args in (
-      entered-six (a .mode) (a .strategy) (a .set) _ 1 2 3 4 5 6 _ _ _ _ _
-          (c .before .before .before .before .before .enter-kind .ensures .0) (c .before .before .before .before .enter-kind2 .ensures .0) (c .before .before .before .enter-kind3 .ensures .0) (c .before .before .enter-kind4 .ensures .0) (c .before .enter-kind5 .ensures .0) (c .enter-kind6 .ensures .0),
-      c .enter-kind6 .ensures .1,
-    )
+    let a = c .before .before .before .before .before .before .args in
+    entered-six (a .mode) (a .strategy) (a .set) _ 1 2 3 4 5 6 _ _ _ _ _
+    (c .before .before .before .before .before .enter-kind .ensures) (c .before .before .before .before .enter-kind2 .ensures) (c .before .before .before .enter-kind3 .ensures) (c .before .before .enter-kind4 .ensures) (c .before .enter-kind5 .ensures) (c .enter-kind6 .ensures)
 
 pub enter-normal-spec : {M : Type 1} → statement M
 enter-normal-spec =

@@ -18,11 +18,9 @@ enter-kind-requires-2 c κs = search needs
 
 returns : tie.Need-returns
 returns c =
-    let a = c .before .before .before .args in (
-      rw (← c .before .verbatim-second .ensures)
-          (entered-two (a .mode) (a .strategy) (a .set) _ 1 (numberOf (c .before .verbatim-second .result)) _ (c .before .before .enter-kind .ensures .0) (c .enter-kind2 .ensures .0)),
-      c .enter-kind2 .ensures .1,
-    )
+    let a = c .before .before .before .args in
+    rw (← c .before .verbatim-second .ensures)
+    (entered-two (a .mode) (a .strategy) (a .set) _ 1 (numberOf (c .before .verbatim-second .result)) _ (c .before .before .enter-kind .ensures) (c .enter-kind2 .ensures))
 
 pub enter-verbatim-spec : {M : Type 1} → statement M
 enter-verbatim-spec =

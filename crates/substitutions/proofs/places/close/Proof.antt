@@ -5,7 +5,7 @@ use native.Mathlib.Omega.{arith}
 use mathlib.Core.Path.{_≡_, refl, _∙_}
 use lib.ListN.{length, length-set}
 use Rattle.substitutions.specs.PlacesLaws.{closed-next, closed-last}
-use Rattle.substitutions.specs.Walks.{closed}
+use Rattle.substitutions.specs.Loops.{closed}
 use Rattle.substitutions.proofs.places.close.Statement.{statement}
 use Rattle.substitutions.proofs.places.close.Tie as tie
 

@@ -8,7 +8,7 @@ use mathlib.Core.List.{_++_}
 use lib.ListN.{length, take, drop, length-set}
 use Rattle.substitutions.specs.Moves.{led}
 use Rattle.substitutions.specs.PlacesLaws.{pushed-is, pushed-here, pushed-next, pushed-done}
-use Rattle.substitutions.specs.Walks.{pushed}
+use Rattle.substitutions.specs.Loops.{pushed}
 use Rattle.substitutions.proofs.places.lead.Statement.{statement}
 use Rattle.substitutions.proofs.places.lead.Tie as tie
 

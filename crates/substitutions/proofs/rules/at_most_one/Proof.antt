@@ -1,7 +1,7 @@
 -- `at_most_one` tells a byte with at most one flag. Each arm knows its byte. Assumes nothing.
 use Prim.Native.Nat.{_-_}
 use mathlib.Core.Path.{sym}
-use Rattle.substitutions.specs.Walks.{few}
+use Rattle.substitutions.specs.Loops.{few}
 use Rattle.substitutions.specs.AnswersLaws.{few-not}
 use Rattle.substitutions.proofs.rules.at_most_one.Statement.{statement}
 use Rattle.substitutions.proofs.rules.at_most_one.Tie as tie

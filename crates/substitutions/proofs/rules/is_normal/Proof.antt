@@ -7,7 +7,7 @@ use mathlib.Core.Path.{_≡_, refl}
 use lib.Dec.{eqb}
 use lib.ListN.{getD}
 use borrow.Author.Tests.{eq-eqb, ne-eqb}
-use Rattle.substitutions.specs.Walks.{normalPlaces}
+use Rattle.substitutions.specs.Loops.{normalPlaces}
 use Rattle.substitutions.proofs.rules.is_normal.Statement.{statement}
 use Rattle.substitutions.proofs.rules.is_normal.Tie as tie
 

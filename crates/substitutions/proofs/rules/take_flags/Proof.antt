@@ -8,7 +8,7 @@ use lib.ListN.{length, getD, drop}
 use borrow.Author.Tests.{not-true, not-false}
 use Rattle.substitutions.specs.KindsLaws.{flag-within}
 use Rattle.substitutions.specs.HeldLaws.{left-empty, left-over, left-bare, left-next, left-end}
-use Rattle.substitutions.specs.Walks.{left}
+use Rattle.substitutions.specs.Loops.{left}
 use Rattle.substitutions.proofs.rules.take_flags.Statement.{statement}
 use Rattle.substitutions.proofs.rules.take_flags.Tie as tie
 

@@ -3,7 +3,6 @@ pub mod Text
 pub mod Customizing
 pub mod Sheet
 pub mod Outcome
-pub mod Examples
 pub mod SheetExamples
 pub mod Places
 pub mod Steps

@@ -1,3 +1,3 @@
 pub mod Outcome
 pub mod ByNumber
-pub mod Marked
+pub mod Examples

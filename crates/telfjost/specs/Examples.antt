@@ -4,7 +4,12 @@ use mathlib.Core.Bool.{true}
 use mathlib.Core.Path.{_≡_, refl}
 use mathlib.Core.List.{List, [], _∷_, _++_, map}
 use lib.ListN.{length}
+use Rattle.substitutions.specs.declared.Mode.{Mode}
+use Rattle.substitutions.specs.declared.Mode.the-variants.{Port, Sheet}
+use Rattle.substitutions.specs.declared.Substitutions.{Substitutions}
 use Rattle.substitutions.specs.declared.SetAnswer.{SetAnswer}
+use Rattle.substitutions.specs.Moves.{set}
+use Rattle.subs_names.specs.Names.{callouts, verbatim, quotes, macros}
 use Rattle.token.specs.Kind.{closeBracket, comma, doubleQuote, dots, equalSigns, hash, percent, singleQuote, word}
 use Rattle.token.specs.Run.{run}
 use Rattle.row.specs.Row.{emptyPositional, positional, named, ident, role, option, diagnostic}
@@ -26,7 +31,6 @@ use Rattle.substitutions.specs.Moves as substitutions-moves
 use Rattle.token.specs.Line as token-line
 use Rattle.token.specs.Names as token-names
 use Rattle.token.specs.Run as token-run
-use Rattle.customize_subs.specs.Examples as customize-subs-cases
 
 -- ---- the lines
 
@@ -124,16 +128,46 @@ lines =
     }
     ∷ []
 
+-- ---- the subs texts
+
+-- A subs text put on a set, and the set that comes of it.
+pub record SubsCase : Type 0 where
+  pub mode : Mode
+  pub given : Substitutions
+  pub text : List ℕ
+  pub made : Substitutions
+
+-- kinds 1 to 6
+abbrev pub one-to-six : Substitutions
+one-to-six = set (1 ∷ 2 ∷ 3 ∷ 4 ∷ 5 ∷ 6 ∷ 0 ∷ []) 63
+
+abbrev onto : Mode → Substitutions → List ℕ → Substitutions → SubsCase
+onto m s text t = record { mode = m; given = s; text = text; made = t }
+
+-- the subs texts that document 01 marks P, in both modes
+abbrev pub texts : List SubsCase
+texts =
+    -- `+callouts` on kinds 1 to 6: same order, flags 127; sheet mode: 7 last
+    onto Port one-to-six (43 ∷ callouts) (set (1 ∷ 2 ∷ 3 ∷ 4 ∷ 5 ∷ 6 ∷ 0 ∷ []) 127)
+    ∷ onto Sheet one-to-six (43 ∷ callouts) (set (1 ∷ 2 ∷ 3 ∷ 4 ∷ 5 ∷ 6 ∷ 7 ∷ []) 127)
+    -- `verbatim`: 1, 4, flags 9; sheet mode 1, 7, flags 65
+    ∷ onto Port one-to-six verbatim (set (1 ∷ 4 ∷ 0 ∷ 0 ∷ 0 ∷ 0 ∷ 0 ∷ []) 9)
+    ∷ onto Sheet one-to-six verbatim (set (1 ∷ 7 ∷ 0 ∷ 0 ∷ 0 ∷ 0 ∷ 0 ∷ []) 65)
+    -- `quotes, macros`: 2, flags 2; sheet mode 2, 5, flags 18
+    ∷ onto Port one-to-six (quotes ++ (44 ∷ 32 ∷ macros)) (set (2 ∷ 0 ∷ 0 ∷ 0 ∷ 0 ∷ 0 ∷ 0 ∷ []) 2)
+    ∷ onto Sheet one-to-six (quotes ++ (44 ∷ 32 ∷ macros)) (set (2 ∷ 5 ∷ 0 ∷ 0 ∷ 0 ∷ 0 ∷ 0 ∷ []) 18)
+    ∷ []
+
 -- ---- all of them
 
 -- what is put to a reader, and what it gives
 pub data Put : Type 0 where
   line : LineCase → Put
-  subs : customize-subs-cases.SubsCase → Put
+  subs : SubsCase → Put
 
 pub data Given : Type 0 where
   rows : attr-list-reading.Reading → Given
-  set : SetAnswer → Given
+  answer : SetAnswer → Given
 
 pub record Marked : Type 0 where
   pub put : Put
@@ -142,17 +176,17 @@ pub record Marked : Type 0 where
 -- what the definitions give
 abbrev pub gives : Put → Given
 gives (line c) = rows (attr-list-reading.reading token-line.mostTokens (c .entry) (token-line.lineOf (c .kinds) (textOf (c .lexemes)) (pairsFrom 0 (c .lexemes))) (c .room))
-gives (subs c) = set (customize-subs-customizing.metaAnswer (c .mode) (c .given) true (c .text))
+gives (subs c) = answer (customize-subs-customizing.metaAnswer (c .mode) (c .given) true (c .text))
 
 -- what document 01 says: rows and tokens consumed of a line; of a subs text the set, and no refusal
 abbrev pub markedLine : LineCase → Marked
 markedLine c = record { put = line c; gives = rows (c .gives) }
 
-abbrev pub markedSubs : customize-subs-cases.SubsCase → Marked
-markedSubs c = record { put = subs c; gives = set (record { refusal = 0; set = c .made }) }
+abbrev pub markedSubs : SubsCase → Marked
+markedSubs c = record { put = subs c; gives = answer (record { refusal = 0; set = c .made }) }
 
 abbrev pub marked : List Marked
-marked = map markedLine lines ++ map markedSubs customize-subs-cases.subsCases
+marked = map markedLine lines ++ map markedSubs texts
 
 abbrev pub computed : Marked → Marked
 computed m = record { put = m .put; gives = gives (m .put) }

@@ -13,15 +13,13 @@ use Rattle.attr_ir.specs.declared.Reading.the-variants.{Shorthand, Posit
 use Rattle.attr_ir.specs.declared.AttrIr.{AttrIr}
 use Rattle.attr_ir.specs.declared.AttrIr.the-variants as ir
 use Rattle.attr_ir.specs.Look.{look}
-use Rattle.attr_ir.specs.Ir.{shorthand, keyValueIr, irAs, attrIr, runsOf, tokensOf}
-use Rattle.attr_ir.specs.Places.{Bounded}
+use Rattle.attr_ir.specs.Ir.{shorthand, keyValueIr, irAs, attrIr, runsOf}
+use Rattle.attr_ir.specs.Places.{IrOf}
 use Rattle.attr_ir.proofs.Values.{part-in}
 
 module _ (kinds text pairs : List ℕ) (from to : ℕ) (block : Bool) (reading : Reading) (e : reading ≡ look block true false (kept (lineOf kinds text pairs) from to)) where
   abbrev Answered : AttrIr → Type 0
-  Answered r =
-      (r ≡ runsOf (attrIr block (kept (lineOf kinds text pairs) from to)))
-      × ((tokensOf (lineOf kinds text pairs) r ≡ attrIr block (kept (lineOf kinds text pairs) from to)) × Bounded kinds from to r)
+  Answered r = IrOf (attrIr block) (lineOf kinds text pairs) from to r
 
   read-as : (x : Reading) → reading ≡ x → irAs block (kept (lineOf kinds text pairs) from to) x ≡ attrIr block (kept (lineOf kinds text pairs) from to)
   unfolding attrIr
@@ -29,20 +27,24 @@ module _ (kinds text pairs : List ℕ) (from to : ℕ) (block : Bool) (reading :
 
   pub ir-shorthand : reading ≡ Shorthand → (r : Run) → ((text pairs : List ℕ) → r ≡ runOf (kept (lineOf kinds text pairs) from to)) → Part all kinds from to r → Answered (ir.Shorthand r)
   unfolding irAs
-  ir-shorthand f r a p = (
-    ap ir.Shorthand (a text pairs) ∙ ap runsOf (read-as Shorthand f),
-    (ap shorthand (p .same text pairs) ∙ read-as Shorthand f, part-in all kinds from to from to r (omega arith) (omega arith) p),
-  )
+  ir-shorthand f r a p =
+      record {
+        answer = ap ir.Shorthand (a text pairs) ∙ ap runsOf (read-as Shorthand f);
+        held = ap shorthand (p .same text pairs) ∙ read-as Shorthand f;
+        within = part-in all kinds from to from to r (omega arith) (omega arith) p;
+      }
 
   pub ir-positional : (noted : Bool) → reading ≡ Positional noted → (r : Run) → ((text pairs : List ℕ) → r ≡ runOf (unquote (kept (lineOf kinds text pairs) from to))) → Part unquote kinds from to r
       → (asked : Bool) → asked ≡ (noted && block) → (cut : Bool) → ((text pairs : List ℕ) → cut ≡ (asked && not (quoted (kept (lineOf kinds text pairs) from to)))) → Answered (ir.Positional r cut)
   unfolding irAs
   ir-positional noted f r a p asked b cut g =
-      let h : cut ≡ (noted && block && not (quoted (kept (lineOf kinds text pairs) from to))) = g text pairs ∙ ap (λ (x : Bool). x && not (quoted (kept (lineOf kinds text pairs) from to))) b in (
-        rw (a text pairs, h) (ap runsOf (read-as (Positional noted) f)),
-        (rw (p .same text pairs, h) (read-as (Positional noted) f), part-in unquote kinds from to from to r (omega arith) (omega arith) p),
-      )
+      let h : cut ≡ (noted && block && not (quoted (kept (lineOf kinds text pairs) from to))) = g text pairs ∙ ap (λ (x : Bool). x && not (quoted (kept (lineOf kinds text pairs) from to))) b in
+      record {
+        answer = rw (a text pairs, h) (ap runsOf (read-as (Positional noted) f));
+        held = rw (p .same text pairs, h) (read-as (Positional noted) f);
+        within = part-in unquote kinds from to from to r (omega arith) (omega arith) p;
+      }
 
-  pub ir-named : reading ≡ Named → (r : AttrIr) → r ≡ runsOf (keyValueIr (kept (lineOf kinds text pairs) from to)) → tokensOf (lineOf kinds text pairs) r ≡ keyValueIr (kept (lineOf kinds text pairs) from to) → Bounded kinds from to r → Answered r
+  pub ir-named : reading ≡ Named → (r : AttrIr) → IrOf keyValueIr (lineOf kinds text pairs) from to r → Answered r
   unfolding irAs
-  ir-named f r a b p = (a ∙ ap runsOf (read-as Named f), (b ∙ read-as Named f, p))
+  ir-named f r w = record { answer = w .answer ∙ ap runsOf (read-as Named f); held = w .held ∙ read-as Named f; within = w .within }

@@ -18,7 +18,7 @@ use Rattle.attr_ir.specs.declared.Name.the-variants.{Options, Role, Id, 
 use Rattle.attr_ir.specs.declared.AttrIr.{AttrIr}
 use Rattle.attr_ir.specs.declared.AttrIr.the-variants as ir
 use Rattle.attr_ir.specs.Ir.{Ir, options, roles, ident, plain, named, nameTokens, lessFirst, value, valueTokens, options-name, opts-name, role-name, id-name, subs-name, cols-name, nameOf, namedIr, keyValueIr, runsOf, tokensOf}
-use Rattle.attr_ir.specs.Places.{InLine, Bounded}
+use Rattle.attr_ir.specs.Places.{InLine, Bounded, IrOf}
 
 -- ---- what a name asks for, by the six tests in order
 
@@ -92,9 +92,7 @@ module _ (kinds text pairs : List ℕ) (from to m after : ℕ) (w : FoundAt isEq
     (v : Run) (vr : (text pairs : List ℕ) → v ≡ runOf (value (kept (lineOf kinds text pairs) after to))) (vp : Part value kinds after to v)
     (asked : Name) (an : asked ≡ nameOf (bytes (without isWhitespace (kept (lineOf kinds text pairs) from m)))) where
   abbrev Answered : AttrIr → Type 0
-  Answered r =
-      (r ≡ runsOf (keyValueIr (kept (lineOf kinds text pairs) from to)))
-      × ((tokensOf (lineOf kinds text pairs) r ≡ keyValueIr (kept (lineOf kinds text pairs) from to)) × Bounded kinds from to r)
+  Answered r = IrOf keyValueIr (lineOf kinds text pairs) from to r
 
   ir-is : (a : Name) → asked ≡ a → namedIr a (without isWhitespace (kept (lineOf kinds text pairs) from m)) (value (kept (lineOf kinds text pairs) after to)) ≡ keyValueIr (kept (lineOf kinds text pairs) from to)
   unfolding keyValueIr nameTokens valueTokens
@@ -109,33 +107,35 @@ module _ (kinds text pairs : List ℕ) (from to m after : ℕ) (w : FoundAt isEq
       (ir-wrap : namedIr a (without isWhitespace (kept (lineOf kinds text pairs) from m)) (value (kept (lineOf kinds text pairs) after to)) ≡ wrap (value (kept (lineOf kinds text pairs) after to)))
       (runs : runsOf (wrap (value (kept (lineOf kinds text pairs) after to))) ≡ made (runOf (value (kept (lineOf kinds text pairs) after to))))
       (tokens : tokensOf (lineOf kinds text pairs) (made v) ≡ wrap (inRun (lineOf kinds text pairs) v)) where
-    answered : (made v ≡ runsOf (keyValueIr (kept (lineOf kinds text pairs) from to))) × (tokensOf (lineOf kinds text pairs) (made v) ≡ keyValueIr (kept (lineOf kinds text pairs) from to))
-    answered = (
-      ap made (vr text pairs) ∙ sym runs ∙ ap runsOf (sym ir-wrap ∙ ir-is a e),
-      tokens ∙ ap wrap (vp .same text pairs) ∙ sym ir-wrap ∙ ir-is a e,
-    )
+    answered : Bounded kinds from to (made v) → Answered (made v)
+    answered within =
+        record {
+          answer = ap made (vr text pairs) ∙ sym runs ∙ ap runsOf (sym ir-wrap ∙ ir-is a e);
+          held = tokens ∙ ap wrap (vp .same text pairs) ∙ sym ir-wrap ∙ ir-is a e;
+          within = within;
+        }
 
   pub named-options : asked ≡ Options → Answered (ir.Options v)
   unfolding namedIr
-  named-options e = let x = answered options ir.Options Options e refl refl refl in (x .0, (x .1, inside))
+  named-options e = answered options ir.Options Options e refl refl refl inside
 
   pub named-role : asked ≡ Role → Answered (ir.Roles v)
   unfolding namedIr
-  named-role e = let x = answered roles ir.Roles Role e refl refl refl in (x .0, (x .1, inside))
+  named-role e = answered roles ir.Roles Role e refl refl refl inside
 
   pub named-id : asked ≡ Id → Answered (ir.Id v)
   unfolding namedIr
-  named-id e = let x = answered ident ir.Id Id e refl refl refl in (x .0, (x .1, inside))
+  named-id e = answered ident ir.Id Id e refl refl refl inside
 
   module _ (n : Run) (nr : (text pairs : List ℕ) → n ≡ runOf (without isWhitespace (kept (lineOf kinds text pairs) from m))) (ni : InLine kinds from m n) where
     pub named-plain : asked ≡ Plain → Answered (ir.Plain n v)
     unfolding namedIr
     named-plain e =
         let x : plain n v ≡ keyValueIr (kept (lineOf kinds text pairs) from to) = rw (nr text pairs, vr text pairs) (ir-is Plain e) in
-        (ap runsOf x, (x, (in-in kinds from m to n (w .high) ni, inside)))
+        record { answer = ap runsOf x; held = x; within = (in-in kinds from m to n (w .high) ni, inside) }
 
     pub named-other : asked ≡ Other → Answered (ir.Named n v)
     unfolding namedIr
     named-other e =
         let x : named n v ≡ keyValueIr (kept (lineOf kinds text pairs) from to) = rw (nr text pairs, vr text pairs) (ir-is Other e) in
-        (ap runsOf x, (x, (in-in kinds from m to n (w .high) ni, inside)))
+        record { answer = ap runsOf x; held = x; within = (in-in kinds from m to n (w .high) ni, inside) }

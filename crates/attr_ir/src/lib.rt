@@ -10,10 +10,10 @@ ghost use mathlib.Core.List.{List};
 ghost use Prim.Native.Nat.{ℕ, _≤_};
 ghost use lib.ListN.{length};
 ghost use Rattle.token.specs.Line.{lineOf};
-ghost use Rattle.token.specs.Lent.{Lent};
+ghost use Rattle.token.specs.Lent.{Lent, line};
 ghost use Rattle.token.specs.Run.{kept, quoted};
-ghost use Rattle.attr_ir.specs.Ir.{attrIr, runsOf, tokensOf};
-ghost use Rattle.attr_ir.specs.Places.{Bounded};
+ghost use Rattle.attr_ir.specs.Ir.{attrIr};
+ghost use Rattle.attr_ir.specs.Places.{IrOf};
 
 mod look;
 mod naming;
@@ -74,9 +74,7 @@ pub fn attr_ir<'a>(
 ) -> AttrIr
     requires { ⌜ Lent (now kinds) (now text) (now pairs) ⌝ }
     requires { ⌜ (from .0 ≤ to .0) × (to .0 ≤ length (now kinds)) ⌝ }
-    ensures answer { λ r. ⌜ r ≡ runsOf (attrIr block (kept (lineOf (now (kinds .entry)) (now (text .entry)) (now (pairs .entry))) (from .0) (to .0))) ⌝ }
-    ensures held { λ r. ⌜ tokensOf (lineOf (now (kinds .entry)) (now (text .entry)) (now (pairs .entry))) r ≡ attrIr block (kept (lineOf (now (kinds .entry)) (now (text .entry)) (now (pairs .entry))) (from .0) (to .0)) ⌝ }
-    ensures within { λ r. ⌜ Bounded (now (kinds .entry)) (from .0) (to .0) r ⌝ }
+    ensures { λ r. ⌜ IrOf (attrIr block) (line (kinds .entry) (text .entry) (pairs .entry)) (from .0) (to .0) r ⌝ }
 {
     let reading = look::look(kinds, text, pairs, from, to, block);
     match reading {

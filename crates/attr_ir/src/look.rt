@@ -19,12 +19,11 @@ ghost use Prim.Native.Nat.{ℕ, _+_, _≤_, _<_};
 ghost use lib.Dec.{eqb};
 ghost use lib.ListN.{length};
 ghost use Rattle.token.specs.Line.{lineOf, tokenAt};
-ghost use Rattle.token.specs.Lent.{Lent};
+ghost use Rattle.token.specs.Lent.{Lent, line};
 ghost use Rattle.token.specs.Kind.{dots, hash, percent};
-ghost use Rattle.token.specs.Run.{kept, isEquals, ofOne};
-ghost use Rattle.token.specs.Names.{sameBytes};
+ghost use Rattle.token.specs.Run.{kept};
 ghost use Rattle.token.specs.Places.{all, StartsAt};
-ghost use Rattle.attr_ir.specs.Look.{isSymbol, symbolSight, sight, look};
+ghost use Rattle.attr_ir.specs.Look.{oneSymbol, equalsSign, symbolSight, sightAt, look};
 
 pub fn both(a: bool, b: bool) -> bool
     ensures { λ r. ⌜ r ≡ (a && b) ⌝ }
@@ -50,7 +49,7 @@ fn symbol_kind(k: u8) -> bool
 fn one_symbol<'a>(kinds: &'a [u8], text: &'a [u8], pairs: &'a [u32], at: TokenPlace) -> bool
     requires { ⌜ Lent (now kinds) (now text) (now pairs) ⌝ }
     requires { ⌜ at .0 < length (now kinds) ⌝ }
-    ensures { λ r. ⌜ r ≡ (isSymbol (tokenAt (lineOf (now (kinds .entry)) (now (text .entry)) (now (pairs .entry))) (at .0)) && ofOne (tokenAt (lineOf (now (kinds .entry)) (now (text .entry)) (now (pairs .entry))) (at .0))) ⌝ }
+    ensures { λ r. ⌜ r ≡ oneSymbol (tokenAt (line (kinds .entry) (text .entry) (pairs .entry)) (at .0)) ⌝ }
 {
     let i = at.0;
     both(symbol_kind(kinds[i]), length_of(pairs, at) == 1)
@@ -60,7 +59,7 @@ fn one_symbol<'a>(kinds: &'a [u8], text: &'a [u8], pairs: &'a [u32], at: TokenPl
 fn equals_sign<'a>(kinds: &'a [u8], text: &'a [u8], pairs: &'a [u32], at: TokenPlace) -> bool
     requires { ⌜ Lent (now kinds) (now text) (now pairs) ⌝ }
     requires { ⌜ at .0 < length (now kinds) ⌝ }
-    ensures { λ r. ⌜ r ≡ (isEquals (tokenAt (lineOf (now (kinds .entry)) (now (text .entry)) (now (pairs .entry))) (at .0)) && sameBytes (tokenAt (lineOf (now (kinds .entry)) (now (text .entry)) (now (pairs .entry))) (at .0) .lexeme) (61 ∷ [])) ⌝ }
+    ensures { λ r. ⌜ r ≡ equalsSign (tokenAt (line (kinds .entry) (text .entry) (pairs .entry)) (at .0)) ⌝ }
 {
     let i = at.0;
     if kinds[i] != EQUAL_SIGNS {
@@ -105,7 +104,7 @@ fn sight_at<'a>(
     requires { ⌜ Lent (now kinds) (now text) (now pairs) ⌝ }
     requires { ⌜ (at .0 < next .0) × (next .0 ≤ to .0) × (to .0 ≤ length (now kinds)) ⌝ }
     requires { ⌜ StartsAt all (now kinds) (at .0 + 1) (to .0) (next .0) ⌝ }
-    ensures { λ r. ⌜ r ≡ sight block first noted (tokenAt (lineOf (now (kinds .entry)) (now (text .entry)) (now (pairs .entry))) (at .0)) (kept (lineOf (now (kinds .entry)) (now (text .entry)) (now (pairs .entry))) (next .0) (to .0)) ⌝ }
+    ensures { λ r. ⌜ r ≡ sightAt block first noted (line (kinds .entry) (text .entry) (pairs .entry)) (at .0) (next .0) (to .0) ⌝ }
 {
     if one_symbol(kinds, text, pairs, at) {
         return symbol_sight(kinds, next, to, both(block, first));
@@ -147,7 +146,7 @@ pub fn look<'a>(
 ) -> Reading
     requires { ⌜ Lent (now kinds) (now text) (now pairs) ⌝ }
     requires { ⌜ (from .0 ≤ to .0) × (to .0 ≤ length (now kinds)) ⌝ }
-    ensures { λ r. ⌜ r ≡ look block true false (kept (lineOf (now (kinds .entry)) (now (text .entry)) (now (pairs .entry))) (from .0) (to .0)) ⌝ }
+    ensures { λ r. ⌜ r ≡ look block true false (kept (line (kinds .entry) (text .entry) (pairs .entry)) (from .0) (to .0)) ⌝ }
 {
     let start = first_kept(kinds, from, to);
     let end = to.0;

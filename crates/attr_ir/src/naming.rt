@@ -15,12 +15,12 @@ ghost use mathlib.Core.List.{List};
 ghost use Prim.Native.Nat.{ℕ, _+_, _≤_, _<_};
 ghost use lib.ListN.{length};
 ghost use Rattle.token.specs.Line.{lineOf};
-ghost use Rattle.token.specs.Lent.{Lent};
+ghost use Rattle.token.specs.Lent.{Lent, line};
 ghost use Rattle.token.specs.Run.{isWhitespace, without, kept, runOf};
 ghost use Rattle.token.specs.Names.{bytes};
 ghost use Rattle.token.specs.Places.{Part};
-ghost use Rattle.attr_ir.specs.Ir.{value, nameOf, keyValueIr, runsOf, tokensOf};
-ghost use Rattle.attr_ir.specs.Places.{InLine, Bounded};
+ghost use Rattle.attr_ir.specs.Ir.{value, nameOf, keyValueIr};
+ghost use Rattle.attr_ir.specs.Places.{InLine, IrOf};
 
 // What the name of the tokens kept from `from` up to `to` asks for.
 fn name_of<'a>(
@@ -32,7 +32,7 @@ fn name_of<'a>(
 ) -> Name
     requires { ⌜ Lent (now kinds) (now text) (now pairs) ⌝ }
     requires { ⌜ (from .0 ≤ to .0) × (to .0 ≤ length (now kinds)) ⌝ }
-    ensures { λ r. ⌜ r ≡ nameOf (bytes (without isWhitespace (kept (lineOf (now (kinds .entry)) (now (text .entry)) (now (pairs .entry))) (from .0) (to .0)))) ⌝ }
+    ensures { λ r. ⌜ r ≡ nameOf (bytes (without isWhitespace (kept (line (kinds .entry) (text .entry) (pairs .entry)) (from .0) (to .0)))) ⌝ }
 {
     if name_is(kinds, text, pairs, from, to, b"options") {
         return Name::Options;
@@ -104,9 +104,7 @@ pub fn parse_key_value_attr<'a>(
 ) -> AttrIr
     requires { ⌜ Lent (now kinds) (now text) (now pairs) ⌝ }
     requires { ⌜ (from .0 ≤ to .0) × (to .0 ≤ length (now kinds)) ⌝ }
-    ensures answer { λ r. ⌜ r ≡ runsOf (keyValueIr (kept (lineOf (now (kinds .entry)) (now (text .entry)) (now (pairs .entry))) (from .0) (to .0))) ⌝ }
-    ensures held { λ r. ⌜ tokensOf (lineOf (now (kinds .entry)) (now (text .entry)) (now (pairs .entry))) r ≡ keyValueIr (kept (lineOf (now (kinds .entry)) (now (text .entry)) (now (pairs .entry))) (from .0) (to .0)) ⌝ }
-    ensures within { λ r. ⌜ Bounded (now (kinds .entry)) (from .0) (to .0) r ⌝ }
+    ensures { λ r. ⌜ IrOf keyValueIr (line (kinds .entry) (text .entry) (pairs .entry)) (from .0) (to .0) r ⌝ }
 {
     let equals = find_kind(kinds, EQUAL_SIGNS, from, to);
     let after = past(equals, to);

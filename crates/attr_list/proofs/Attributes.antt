@@ -18,13 +18,20 @@ use Rattle.delimiters.specs.Delimit.{parted}
 use Rattle.attribute.specs.declared.Written.{Written}
 use Rattle.attr_ir.specs.Look.{look, sight}
 use Rattle.attr_ir.specs.Ir.{attrIr, irAs}
-use Rattle.attribute.specs.Attribute.{attribute, reading, irRead, oneRow}
+use Rattle.attribute.specs.Attribute.{Read, attribute, reading, irRead, oneRow}
 use Rattle.attribute.specs.Laws.{again}
-use Rattle.attribute.specs.Written.{written}
+use Rattle.attribute.specs.Written.{WroteId, Attributed}
+use Rattle.attribute.proofs.Whole.{all-told}
 use Rattle.attr_list.specs.Reading.{rowsFrom}
 use Rattle.attr_list.specs.Laws.{Listing, listing-comma, listing-end, listing-next, listing-last}
 
 -- ---- an attribute of no tokens, and one of one Word: the row that is written for it
+
+-- a call that wrote what an attribute gives
+pub attributed : (l : Line) (from to : ℕ) (block has : Bool) (before : List ℕ) (at : ℕ) (d : Read) (after : List ℕ) (r : Written) → WroteId before at d after r → d ≡ attribute block has (kept l from to) → r .rows ≤ at + (to - from + 1) → Attributed l from to block has before at r after
+attributed l from to block has before at d after r w e few =
+    let v = all-told before at d (attribute block has (kept l from to)) after r (at + (to - from + 1)) w e few in
+    record { answer = v .0; buffer = v .1 .0; few = v .1 .1 }
 
 none-read : (block has : Bool) → attribute block has [] ≡ oneRow has emptyPositional
 unfolding reading trim trimStart trimEnd
@@ -79,12 +86,17 @@ module _ (l : Line) (commas : List ℕ) (n end : ℕ) (block : Bool) (base : Lis
         (v, within, omega (arith, v, w .few, w .writes .long))
 
   module _ (cur : List ℕ) (from at : ℕ) (id : Bool) (j : ℕ) (w : Listing l (take n commas) end block base cur from at id j) where
-    pub next : (c : ℕ) → j < n → c ≡ getD commas j 0 → (r : Written) (after : List ℕ) → r ≡ written at (attribute block id (kept l from c)) → after ≡ withRows cur at (attribute block id (kept l from c) .rows) → r .rows ≤ at + (c - from) + 1 → Listing l (take n commas) end block base after (c + 1) (r .rows) (r .id) (j + 1)
-    next c h e r after answers fills few =
+    pub next : (c : ℕ) → j < n → c ≡ getD commas j 0 → (r : Written) (after : List ℕ) → Attributed l from c block id cur at r after → Listing l (take n commas) end block base after (c + 1) (r .rows) (r .id) (j + 1)
+    next c h e r after v =
         let s : getD (take n commas) j 0 ≡ c = comma-is j c h e in
+        let few : r .rows ≤ at + (getD (take n commas) j 0 - from) + 1 = omega (arith, s, v .few) in
         subst (λ (x : ℕ). Listing l (take n commas) end block base after (x + 1) (r .rows) (r .id) (j + 1)) s
-        (listing-next l (take n commas) end block base cur from at id j w (among j h) after (r .rows) (r .id) (attribute block id (kept l from c)) (ap (λ (x : ℕ). attribute block id (kept l from x)) (sym s)) (record { count = ap (λ (x : Written). x .rows) answers; buffer = fills }) (ap (λ (x : Written). x .id) answers) (subst (λ (x : ℕ). r .rows ≤ at + (x - from) + 1) (sym s) few))
+        (listing-next l (take n commas) end block base cur from at id j w (among j h) after (r .rows) (r .id) (attribute block id (kept l from c))
+        (ap (λ (x : ℕ). attribute block id (kept l from x)) (sym s))
+        (record { count = ap (λ (x : Written). x .rows) (v .answer); buffer = v .buffer })
+        (ap (λ (x : Written). x .id) (v .answer)) few)
 
-    pub last : n ≤ j → (r : Written) (after : List ℕ) → r ≡ written at (attribute block id (kept l from end)) → after ≡ withRows cur at (attribute block id (kept l from end) .rows) → Wrote base 0 (rowsFrom l block false (parted 0 (take n commas) end) .rows) after (r .rows)
-    last h r after answers fills =
-        listing-last l (take n commas) end block base cur from at id j w (omega (arith, length-take-le n commas enough)) after (r .rows) (attribute block id (kept l from end)) refl (record { count = ap (λ (x : Written). x .rows) answers; buffer = fills })
+    pub last : n ≤ j → (r : Written) (after : List ℕ) → Attributed l from end block id cur at r after → Wrote base 0 (rowsFrom l block false (parted 0 (take n commas) end) .rows) after (r .rows)
+    last h r after v =
+        listing-last l (take n commas) end block base cur from at id j w (omega (arith, length-take-le n commas enough)) after (r .rows) (attribute block id (kept l from end)) refl
+        (record { count = ap (λ (x : Written). x .rows) (v .answer); buffer = v .buffer })

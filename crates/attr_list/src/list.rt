@@ -15,10 +15,8 @@ ghost use lib.Dec.{eqb};
 ghost use lib.ListN.{length, take};
 ghost use Rattle.token.specs.Kind.{word, kindAt};
 ghost use Rattle.token.specs.Lent.{line, Lent};
-ghost use Rattle.token.specs.Run.{kept};
-ghost use Rattle.row.specs.Row.{width, withRows, Wrote};
-ghost use Rattle.attribute.specs.Attribute.{attribute};
-ghost use Rattle.attribute.specs.Written.{written};
+ghost use Rattle.row.specs.Row.{width, Wrote};
+ghost use Rattle.attribute.specs.Written.{Attributed};
 ghost use Rattle.delimiters.specs.Divide.{Ascending};
 ghost use Rattle.attr_list.specs.Reading.{partedRows};
 
@@ -54,9 +52,7 @@ fn attr_rows<'a, 'b>(
 ) -> Written
     requires { ⌜ Lent (now kinds) (now text) (now pairs) ⌝ }
     requires { ⌜ (from .0 ≤ to .0) × (to .0 ≤ length (now kinds)) × (width * (at + (to .0 - from .0) + 1) ≤ length (now rows)) ⌝ }
-    ensures answer { λ r. ⌜ r ≡ written at (attribute block has (kept (line (kinds .entry) (text .entry) (pairs .entry)) (from .0) (to .0))) ⌝ }
-    ensures buffer { λ _. ⌜ now (rows .exit) ≡ withRows (now (rows .entry)) at (attribute block has (kept (line (kinds .entry) (text .entry) (pairs .entry)) (from .0) (to .0)) .rows) ⌝ }
-    ensures few { λ r. ⌜ r .rows ≤ at + (to .0 - from .0) + 1 ⌝ }
+    ensures { λ r. ⌜ Attributed (line (kinds .entry) (text .entry) (pairs .entry)) (from .0) (to .0) block has (now (rows .entry)) at r (now (rows .exit)) ⌝ }
 {
     if from.0 == to.0 {
         let none = Run {

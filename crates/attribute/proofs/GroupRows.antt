@@ -7,21 +7,21 @@ use mathlib.Core.List.{List, [], _∷_}
 use lib.Dec.{eqb}
 use lib.ListN.{length, getD}
 use lib.Seq.{sets}
-use borrow.Author.Tests.{ne-eqb, eqb-true, eqb-false}
+use borrow.Author.Tests.{eq-eqb, ne-eqb, eqb-true, eqb-false}
 use Rattle.token.specs.declared.Run.{Run}
 use Rattle.token.specs.Kind.{attrRef, dots, hash, percent}
-use Rattle.token.specs.Line.{Token, lineOf, tokenAt}
+use Rattle.token.specs.Line.{Line, Token, lineOf, tokenAt}
 use Rattle.token.specs.Run.{kept, ofKind, ofOne, trim, runOf, onward}
 use Rattle.token.specs.KeptLaws.{none-start, none-skip, none-more, found-here, found-none}
 use Rattle.token.specs.Places.{FoundAt}
 use Rattle.token.specs.NamesLaws.{kind-of}
 use Rattle.row.specs.declared.Row.{Row}
-use Rattle.row.specs.Row.{width, numbers, oneRun, diagnostic, ident, Wrote}
+use Rattle.row.specs.Row.{width, numbers, oneRun, diagnostic, ident, withRows, Wrote}
 use Rattle.row.specs.Laws.{Writes, writes-start, writes-part, writes-wrote, wrote-none, wrote-one}
 use Rattle.attribute.specs.declared.Written.{Written}
-use Rattle.attribute.specs.Attribute.{Read, oneRow, isStop, unlessEmpty, groups, groupRows, idRead}
+use Rattle.attribute.specs.Attribute.{Read, oneRow, isStop, runRows, unlessEmpty, groups, groupRows, idRun}
 use Rattle.attribute.specs.Written.{WroteId, StopsAt}
-use Rattle.attribute.proofs.Lists.{groups-next, groups-last, groupRows-first, unless-none, run-count, id-none, id-second, id-first}
+use Rattle.attribute.proofs.Lists.{groups-next, groups-last, groupRows-first, unless-none, run-count}
 
 -- ---- one row
 
@@ -30,6 +30,9 @@ wrote-row before at row id after e = rw e (record { wrote = wrote-one before at 
 
 pub wrote-same : (before : List ℕ) (at : ℕ) (a b : Read) (after : List ℕ) (r : Written) → a ≡ b → WroteId before at a after r → WroteId before at b after r
 wrote-same before at a b after r e w = subst (λ (x : Read). WroteId before at x after r) e w
+
+pub positional-row : (before : List ℕ) (at : ℕ) (after : List ℕ) (l : Line) (from to : ℕ) (run : Run) (row : Row) → run ≡ runOf (kept l from to) → row ≡ oneRun 2 run → after ≡ sets before (width * at) (numbers row) → after ≡ withRows before at (runRows l from to)
+positional-row before at after l from to run row e f g = g ∙ rw (f, e) (wrote-one before at (oneRun 2 (runOf (kept l from to))) .buffer)
 
 -- ---- one group
 
@@ -91,19 +94,19 @@ module _ (kinds : List ℕ) (kind tag from to : ℕ) (base : List ℕ) (at : ℕ
 
 -- ---- ids
 
-module _ (buffer : List ℕ) (at : ℕ) (run : Run) (ts : List Token) (e : run ≡ runOf ts) where
-  pub id-empty : (has : Bool) → run .count ≡ 0 → oneRow has (diagnostic 0 3) ≡ idRead has ts
-  id-empty has z = sym (id-none has ts (run-count ts (ap (λ (r : Run). r .count) (sym e) ∙ z)))
+module _ (has : Bool) (run : Run) where
+  pub id-empty : run .count ≡ 0 → oneRow has (diagnostic 0 3) ≡ idRun has run
+  unfolding idRun
+  id-empty z = sym (rw (eq-eqb (run .count) 0 z))
 
   module _ (n : run .count ≡ 0 → ⊥) where
-    count-some : runOf ts .count ≡ 0 → ⊥
-    count-some z = n (ap (λ (r : Run). r .count) e ∙ z)
+    pub id-again : has ≡ true → oneRow true (diagnostic (run .place .0) 4) ≡ idRun has run
+    unfolding idRun
+    id-again h = sym (rw (ne-eqb (run .count) 0 n, h))
 
-    pub id-again : (has : Bool) → has ≡ true → oneRow true (diagnostic (run .place .0) 4) ≡ idRead has ts
-    id-again has h = sym (rw (h, id-second ts count-some, ← e))
-
-    pub id-new : (has : Bool) → has ≡ false → oneRow true (ident run) ≡ idRead has ts
-    id-new has h = sym (rw (h, id-first ts count-some, ← e))
+    pub id-new : has ≡ false → oneRow true (ident run) ≡ idRun has run
+    unfolding idRun
+    id-new h = sym (rw (ne-eqb (run .count) 0 n, h))
 
 -- ---- stops
 

@@ -13,7 +13,7 @@ use Rattle.token.specs.Places.{FoundIn}
 use Rattle.token.specs.KeptLaws.{onward-later, place-is, kept-none, kept-first, kept-split}
 use Rattle.row.specs.declared.Row.{Row}
 use Rattle.row.specs.Row.{oneRun, ident, diagnostic}
-use Rattle.attribute.specs.Attribute.{oneRow, rowFirst, isStop, pieces, symbolRow, lastEmpty, shorthandRead, laterGroups, groups, unlessEmpty, groupRows, idRead}
+use Rattle.attribute.specs.Attribute.{oneRow, rowFirst, isStop, pieces, symbolRow, lastEmpty, shorthandRead, laterGroups, groups, unlessEmpty, groupRows}
 
 -- ---- groups
 
@@ -68,20 +68,6 @@ pub run-count : (ts : List Token) → runOf ts .count ≡ 0 → ts ≡ []
 unfolding runOf
 run-count [] e = refl
 run-count (t ∷ ts) e = absurd (omega (arith, e))
-
-pub id-none : (has : Bool) (ts : List Token) → ts ≡ [] → idRead has ts ≡ oneRow has (diagnostic 0 3)
-unfolding idRead
-id-none has ts e = rw e
-
-pub id-second : (ts : List Token) → (runOf ts .count ≡ 0 → ⊥) → idRead true ts ≡ oneRow true (diagnostic (runOf ts .place .0) 4)
-unfolding idRead runOf
-id-second [] e = absurd (e refl)
-id-second (t ∷ ts) e = refl
-
-pub id-first : (ts : List Token) → (runOf ts .count ≡ 0 → ⊥) → idRead false ts ≡ oneRow true (ident (runOf ts))
-unfolding idRead runOf
-id-first [] e = absurd (e refl)
-id-first (t ∷ ts) e = refl
 
 -- ---- shorthand
 

@@ -61,7 +61,8 @@ module _ (kinds text pairs : List ℕ) (from to : ℕ) (has : Bool) (base : List
         shorting-second z after q =
             ends-by (diagnostic i 4) after q (short-second (lineOf kinds text pairs) i to start h (w .symbol .first h) (w .symbol .stop h) (v .part .same text pairs) id g (v .first g) (ap (λ (b : Bool). b && id) (sym hashes) ∙ z))
 
-        pub shorting-next : (hashed && id) ≡ false → (m : ℕ) → StopsAt kinds text pairs start to m → (run : Run) → run ≡ runOf (kept (lineOf kinds text pairs) start m) → (tag : ℕ) → tag ≡ cond (eqb (getD kinds i 0) hash) 4 (cond (eqb (getD kinds i 0) percent) 6 5) → (row : Row) → row ≡ oneRun tag run → (after : List ℕ) → after ≡ sets cur (width * n) (numbers row) → (id′ : Bool) → id′ ≡ (hashed || id) → Shorting kinds text pairs from to has base at m after (n + 1) id′
+        pub shorting-next : (hashed && id) ≡ false → (m : ℕ) → StopsAt kinds text pairs start to m → (run : Run) → run ≡ runOf (kept (lineOf kinds text pairs) start m) → (tag : ℕ) → tag ≡ cond (eqb (getD kinds i 0) hash) 4 (cond (eqb (getD kinds i 0) percent) 6 5)
+            → (row : Row) → row ≡ oneRun tag run → (after : List ℕ) → after ≡ sets cur (width * n) (numbers row) → (id′ : Bool) → id′ ≡ (hashed || id) → Shorting kinds text pairs from to has base at m after (n + 1) id′
         shorting-next z m s run e tag f row t after q id′ p =
             let l = lineOf kinds text pairs in
             let tags : cond (isHash (tokenAt l i)) 4 (cond (isPercent (tokenAt l i)) 6 5) ≡ tag = rw (kind-is l i hash, kind-is l i percent) (sym f) in

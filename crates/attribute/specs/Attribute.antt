@@ -2,12 +2,13 @@
 use Prim.Native.Nat.{ℕ, zero, suc, _-_}
 use mathlib.Core.Bool.{Bool, true, false, cond, _&&_, _||_}
 use mathlib.Core.List.{List, [], _∷_}
+use lib.Dec.{eqb}
 use lib.ListN.{length}
 use Rattle.token.specs.declared.Run.{Run}
-use Rattle.token.specs.Line.{Token}
-use Rattle.token.specs.Run.{isComma, isWhitespace, isDots, isHash, isPercent, ofOne, upTo, onward, trim, runOf}
+use Rattle.token.specs.Line.{Line, Token}
+use Rattle.token.specs.Run.{ofKind, isComma, isWhitespace, isDots, isHash, isPercent, ofOne, kept, upTo, onward, trim, runOf}
 use Rattle.row.specs.declared.Row.{Row}
-use Rattle.row.specs.Row.{emptyPositional, positional, named, ident, role, option, diagnostic, plain}
+use Rattle.row.specs.Row.{oneRun, emptyPositional, positional, named, ident, role, option, diagnostic, plain}
 use Rattle.attr_ir.specs.Look.{isSymbol}
 use Rattle.attr_ir.specs.Ir.{Ir, attrIr}
 use Rattle.attr_ir.specs.Ir as is
@@ -59,6 +60,10 @@ shorthandRead has (p ∷ ps) =
     cond (lastEmpty (p .taken) ps) (oneRow has (diagnostic (p .symbol .place) 1))
     (cond (isHash (p .symbol) && has) (oneRow has (diagnostic (p .symbol .place) 4)) more)
 
+-- the rows of an attribute in shorthand
+abbrev pub inShorthand : (has : Bool) → List Token → Read
+inShorthand has ts = shorthandRead has (pieces ts)
+
 -- ---- groups and ids
 
 -- the groups after each token for which p holds, up to the next such token
@@ -84,10 +89,27 @@ groupRows f (g ∷ gs) = unlessEmpty f (trim g) (groupRows f gs)
 abbrev pub groupRead : (has : Bool) → (Run → Row) → List (List Token) → Read
 groupRead has f gs = record { rows = groupRows f gs; hasId = has }
 
+-- the rows of one group, and of tokens that are split at a kind, by their tag
+abbrev pub groupRow : (tag : ℕ) → List Token → List Row
+groupRow tag g = unlessEmpty (oneRun tag) (trim g) []
+
+abbrev pub splitRows : (tag kind : ℕ) → List Token → List Row
+splitRows tag kind ts = groupRows (oneRun tag) (groups (ofKind kind) ts)
+
 -- "`id` empty is 3; second id is 4 at its first token." 3 is at "place 0, the list's own"
 unfoldable pub idRead : (has : Bool) → List Token → Read
 idRead has [] = oneRow has (diagnostic 0 3)
 idRead has (t ∷ ts) = cond has (oneRow true (diagnostic (t .place) 4)) (oneRow true (ident (runOf (t ∷ ts))))
+
+-- the same by the run of its tokens (law `id-by-run`), for every run
+unfoldable pub idRun : (has : Bool) → Run → Read
+idRun has r = cond (eqb (r .count) 0) (oneRow has (diagnostic 0 3)) (cond has (oneRow true (diagnostic (r .place .0) 4)) (oneRow true (ident r)))
+
+-- ---- positionals
+
+-- the one row of the tokens kept of the places from `from` up to and without `to`
+abbrev pub runRows : Line → (from to : ℕ) → List Row
+runRows l from to = positional (runOf (kept l from to)) ∷ []
 
 -- ---- the whole; `again` is the whole reading of an attribute
 
@@ -107,7 +129,7 @@ irRead again has (is.plain name value) = oneRow has (plain name value)
 irRead again has (is.options ts) = groupRead has option (groups isComma ts)
 irRead again has (is.roles ts) = groupRead has role (groups isWhitespace ts)
 irRead again has (is.ident ts) = idRead has ts
-irRead again has (is.shorthand ts) = shorthandRead has (pieces ts)
+irRead again has (is.shorthand ts) = inShorthand has ts
 
 -- "AttrRef is dropped, then `trim`; nothing left is tag 1": of trimmed tokens
 unfoldable pub reading : (again : List Token → Read) → (block has : Bool) → List Token → Read

@@ -5,10 +5,11 @@ use native.Mathlib.Omega.{arith}
 use mathlib.Core.Bool.{Bool, true, false, cond, not, _&&_, _||_}
 use mathlib.Core.Path.{_≡_, refl, sym, ap, subst, _∙_}
 use mathlib.Core.List.{List, [], _∷_}
+use lib.Dec.{eqb·suc-zero}
 use lib.ListN.{length}
 use Rattle.token.specs.declared.Run.{Run}
 use Rattle.token.specs.Line.{Token}
-use Rattle.token.specs.Run.{isComma, isHash, isWhitespace, isEquals, ofOne, upTo, onward, trimStart, leave, trimEnd, trim, quoted, inside, front, unquote, runOf, without}
+use Rattle.token.specs.Run.{isComma, isHash, isWhitespace, isEquals, ofOne, upTo, onward, trimStart, leave, trimEnd, trim, quoted, inside, front, lastOf, unquote, runOf, without}
 use Rattle.token.specs.KeptLaws.{onward-later, unquote-plain}
 use Rattle.row.specs.declared.Row.{Row}
 use Rattle.row.specs.Row.{positional}
@@ -20,7 +21,7 @@ use Rattle.attr_ir.specs.declared.Name.the-variants as asks
 use Rattle.attr_ir.specs.Look.{isSymbol, isQuote, nextEquals, symbolSight, sight, decided, look}
 use Rattle.attr_ir.specs.Ir.{shorthand, nameTokens, lessFirst, lessSpace, value, valueTokens, nameOf, namedIr, keyValueIr, irAs, attrIr}
 use Rattle.attr_ir.specs.Ir as is
-use Rattle.attribute.specs.Attribute.{Read, rowFirst, oneRow, isStop, Piece, pieces, lastEmpty, shorthandRead, laterGroups, groups, unlessEmpty, groupRows, idRead, cutRead, irRead, reading, attributeIn, attribute}
+use Rattle.attribute.specs.Attribute.{Read, rowFirst, oneRow, isStop, Piece, pieces, lastEmpty, shorthandRead, laterGroups, groups, unlessEmpty, groupRows, idRead, idRun, cutRead, irRead, reading, attributeIn, attribute}
 use Rattle.attribute.specs.Written.{orOne}
 
 -- ---- how many tokens are left
@@ -134,7 +135,8 @@ again block has ts =
 plain-token : (block first noted n : Bool) (t : Token) (ts : List Token) (k : Bool → Reading) → isSymbol t ≡ false → ((m : Bool) → k m ≡ Positional n → n ≡ m) → decided (sight block first noted t ts) k ≡ Positional n → n ≡ noted
 unfolding sight
 plain-token block first noted n t ts k e h f =
-    go (isQuote t) (isWhitespace t) (nextEquals ts) (isEquals t) first (ofOne t) (subst (λ (b : Bool). decided (cond (b && ofOne t) (symbolSight (block && first) ts) (cond (isQuote t) (Is (Positional noted)) (cond (isWhitespace t) (cond (nextEquals ts) (On noted) (Is (Positional noted))) (cond (isEquals t) (cond first (Is (Positional noted)) (cond (ofOne t) (Is Named) (On noted))) (On noted))))) k ≡ Positional n) e f)
+    go (isQuote t) (isWhitespace t) (nextEquals ts) (isEquals t) first (ofOne t) (subst (λ (b : Bool). decided (cond (b && ofOne t) (symbolSight (block && first) ts)
+    (cond (isQuote t) (Is (Positional noted)) (cond (isWhitespace t) (cond (nextEquals ts) (On noted) (Is (Positional noted))) (cond (isEquals t) (cond first (Is (Positional noted)) (cond (ofOne t) (Is Named) (On noted))) (On noted))))) k ≡ Positional n) e f)
   where
     same : Positional noted ≡ Positional n → n ≡ noted
     same e = cc
@@ -325,3 +327,10 @@ in-few (suc most) block has ts =
 pub rows-few : (block has : Bool) (ts : List Token) → length (attribute block has ts .rows) ≤ orOne (length ts)
 unfolding attribute
 rows-few block has ts = in-few (suc (length ts)) block has ts
+
+-- ---- an id by the run of its tokens
+
+pub id-by-run : (has : Bool) (ts : List Token) → idRead has ts ≡ idRun has (runOf ts)
+unfolding idRead idRun runOf
+id-by-run has [] = refl
+id-by-run has (t ∷ ts) = rw (eqb·suc-zero (lastOf t ts .place - t .place))

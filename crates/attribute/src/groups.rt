@@ -7,14 +7,13 @@ use token::TokenPlace;
 use token::runs::find_kind;
 use token::runs::trim;
 ghost use mathlib.Core.Path.{_≡_};
-ghost use mathlib.Core.List.{List, []};
-ghost use Prim.Native.Nat.{ℕ, _+_, _*_, _-_, _≤_, _<_};
+ghost use Prim.Native.Nat.{_+_, _*_, _-_, _≤_};
 ghost use lib.ListN.{length};
 ghost use Rattle.token.specs.Kind.{attrRef};
-ghost use Rattle.token.specs.Line.{lineOf, mostTokens};
-ghost use Rattle.token.specs.Run.{kept, inRun, ofKind, trim};
-ghost use Rattle.row.specs.Row.{width, oneRun, Wrote};
-ghost use Rattle.attribute.specs.Attribute.{unlessEmpty, groups, groupRows};
+ghost use Rattle.token.specs.Line.{mostTokens};
+ghost use Rattle.row.specs.Row.{width};
+ghost use Rattle.attribute.specs.Attribute.{groupRow, splitRows};
+ghost use Rattle.attribute.specs.Written.{RowsOf, Grouped};
 
 // Writes the row of a group, if any token is left when it is trimmed.
 fn put_group<'a, 'b>(
@@ -27,8 +26,7 @@ fn put_group<'a, 'b>(
 ) -> usize
     requires { ⌜ (from .0 ≤ to .0) × (to .0 ≤ length (now kinds)) × (length (now kinds) ≤ mostTokens) ⌝ }
     requires { ⌜ width * (at + (to .0 - from .0)) ≤ length (now rows) ⌝ }
-    ensures wrote { λ r. ⌜ ((text pairs : List ℕ) → Wrote (now (rows .entry)) at (unlessEmpty (oneRun tag) (trim (kept (lineOf (now (kinds .entry)) text pairs) (from .0) (to .0))) []) (now (rows .exit)) r) ⌝ }
-    ensures few { λ r. ⌜ r ≤ at + (to .0 - from .0) ⌝ }
+    ensures { λ r. ⌜ RowsOf (groupRow tag) (now (kinds .entry)) (from .0) (to .0) (now (rows .entry)) at r (now (rows .exit)) ⌝ }
 {
     let run = trim(kinds, from, to);
     let count = run.count;
@@ -51,8 +49,7 @@ fn push_attr_groups<'a, 'b>(
 ) -> usize
     requires { ⌜ (from .0 ≤ to .0) × (to .0 ≤ length (now kinds)) × (length (now kinds) ≤ mostTokens) × (delimiter ≡ attrRef → ⊥) ⌝ }
     requires { ⌜ width * (at + (to .0 - from .0)) ≤ length (now rows) ⌝ }
-    ensures wrote { λ r. ⌜ ((text pairs : List ℕ) → Wrote (now (rows .entry)) at (groupRows (oneRun tag) (groups (ofKind delimiter) (kept (lineOf (now (kinds .entry)) text pairs) (from .0) (to .0)))) (now (rows .exit)) r) ⌝ }
-    ensures few { λ r. ⌜ r ≤ at + (to .0 - from .0) ⌝ }
+    ensures { λ r. ⌜ RowsOf (splitRows tag delimiter) (now (kinds .entry)) (from .0) (to .0) (now (rows .entry)) at r (now (rows .exit)) ⌝ }
 {
     let stop = to.0;
     let mut i = from.0;
@@ -79,9 +76,7 @@ pub fn put_groups<'a, 'b>(
 ) -> Written
     requires { ⌜ (run .place .0 + run .count ≤ length (now kinds)) × (length (now kinds) ≤ mostTokens) × (delimiter ≡ attrRef → ⊥) ⌝ }
     requires { ⌜ width * (at + run .count) ≤ length (now rows) ⌝ }
-    ensures wrote { λ r. ⌜ ((text pairs : List ℕ) → Wrote (now (rows .entry)) at (groupRows (oneRun tag) (groups (ofKind delimiter) (inRun (lineOf (now (kinds .entry)) text pairs) run))) (now (rows .exit)) (r .rows)) ⌝ }
-    ensures id { λ r. ⌜ r .id ≡ id ⌝ }
-    ensures few { λ r. ⌜ r .rows ≤ at + run .count ⌝ }
+    ensures { λ r. ⌜ Grouped (now (kinds .entry)) delimiter tag run id (now (rows .entry)) at r (now (rows .exit)) ⌝ }
 {
     let from = run.place;
     let to = TokenPlace(from.0 + run.count);

@@ -1,6 +1,6 @@
 // Shorthand: each symbol takes tokens up to the next.
 use super::Written;
-use super::single::put_diagnostic;
+use super::one_row::put_diagnostic;
 use row::one_run;
 use row::put_row;
 use row::tag::ID;
@@ -14,20 +14,18 @@ use token::line::length_of;
 use token::runs::first_kept;
 use token::runs::run_of;
 ghost use mathlib.Core.Path.{_≡_};
-ghost use mathlib.Core.List.{List};
 ghost use mathlib.Core.Bool.{cond, _&&_, _||_};
-ghost use Prim.Native.Nat.{ℕ, _+_, _*_, _-_, _≤_, _<_};
+ghost use Prim.Native.Nat.{_+_, _*_, _-_, _≤_, _<_};
 ghost use lib.Dec.{eqb};
 ghost use lib.ListN.{length};
 ghost use Rattle.token.specs.Kind.{hash, percent};
-ghost use Rattle.token.specs.Line.{lineOf, tokenAt};
-ghost use Rattle.token.specs.Lent.{Lent};
-ghost use Rattle.token.specs.Run.{kept};
+ghost use Rattle.token.specs.Line.{tokenAt};
+ghost use Rattle.token.specs.Lent.{Lent, line};
 ghost use Rattle.row.specs.Row.{width};
-ghost use Rattle.attribute.specs.Attribute.{isStop, pieces, shorthandRead};
-ghost use Rattle.attribute.specs.Written.{WroteId, StopsAt, StopFirst};
+ghost use Rattle.attribute.specs.Attribute.{isStop};
+ghost use Rattle.attribute.specs.Written.{StopsAt, StopFirst, Shorthanded};
 
-pub fn both(a: bool, b: bool) -> bool
+fn both(a: bool, b: bool) -> bool
     ensures { λ r. ⌜ r ≡ (a && b) ⌝ }
 {
     if a {
@@ -36,7 +34,7 @@ pub fn both(a: bool, b: bool) -> bool
     false
 }
 
-pub fn either(a: bool, b: bool) -> bool
+fn either(a: bool, b: bool) -> bool
     ensures { λ r. ⌜ r ≡ (a || b) ⌝ }
 {
     if a {
@@ -49,7 +47,7 @@ pub fn either(a: bool, b: bool) -> bool
 fn is_stop<'a>(kinds: &'a [u8], text: &'a [u8], pairs: &'a [u32], at: TokenPlace) -> bool
     requires { ⌜ Lent (now kinds) (now text) (now pairs) ⌝ }
     requires { ⌜ at .0 < length (now kinds) ⌝ }
-    ensures { λ r. ⌜ r ≡ isStop (tokenAt (lineOf (now (kinds .entry)) (now (text .entry)) (now (pairs .entry))) (at .0)) ⌝ }
+    ensures { λ r. ⌜ r ≡ isStop (tokenAt (line (kinds .entry) (text .entry) (pairs .entry)) (at .0)) ⌝ }
 {
     let i = at.0;
     match kinds[i] {
@@ -114,8 +112,7 @@ pub fn push_shorthand<'a, 'b>(
     requires { ⌜ Lent (now kinds) (now text) (now pairs) ⌝ }
     requires { ⌜ (from .0 ≤ to .0) × (to .0 ≤ length (now kinds)) × (width * (at + (to .0 - from .0)) ≤ length (now rows)) ⌝ }
     requires { ⌜ StopFirst (now kinds) (now text) (now pairs) (from .0) (to .0) ⌝ }
-    ensures wrote { λ r. ⌜ WroteId (now (rows .entry)) at (shorthandRead has (pieces (kept (lineOf (now (kinds .entry)) (now (text .entry)) (now (pairs .entry))) (from .0) (to .0)))) (now (rows .exit)) r ⌝ }
-    ensures few { λ r. ⌜ r .rows ≤ at + (to .0 - from .0) ⌝ }
+    ensures { λ r. ⌜ Shorthanded (line (kinds .entry) (text .entry) (pairs .entry)) (from .0) (to .0) has (now (rows .entry)) at r (now (rows .exit)) ⌝ }
 {
     let stop = to.0;
     let mut i = from.0;

@@ -1,7 +1,6 @@
 pub mod Kind
 pub mod Line
 pub mod Lent
-pub mod Block
 pub mod Run
 pub mod Names
 pub mod Places

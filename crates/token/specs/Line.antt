@@ -4,6 +4,7 @@ use mathlib.Core.Bool.{Bool, true, false, not, _&&_, _||_}
 use mathlib.Core.List.{List, [], _∷_}
 use lib.Dec.{eqb, ltb}
 use lib.ListN.{length, getD, take, drop}
+use Rattle.refusals.specs.Refusals.{noTokens, tooManyTokens, textTooLong, pairsNotTwo, kindTooLarge, pairsNotInOrder}
 use Rattle.token.specs.Kind.{largest, backslash, closeBracket, openBracket}
 
 -- "A line is lent as kinds, text bytes, and pairs of byte offset and length, one per token"
@@ -17,15 +18,21 @@ lineOf kinds text pairs = record { kinds = kinds; text = text; pairs = pairs }
 
 -- ---- tokens
 
--- the byte offset and the length of the token at a place, and its lexeme, the bytes between
-abbrev pub offsetAt : Line → ℕ → ℕ
-offsetAt l p = getD (l .pairs) (2 * p) 0
+-- the byte offset and the length of the token at a place, where it ends, and its lexeme, the bytes between
+abbrev pub offsetIn : (pairs : List ℕ) → ℕ → ℕ
+offsetIn pairs p = getD pairs (2 * p) 0
 
-abbrev pub lengthAt : Line → ℕ → ℕ
-lengthAt l p = getD (l .pairs) (2 * p + 1) 0
+abbrev pub lengthIn : (pairs : List ℕ) → ℕ → ℕ
+lengthIn pairs p = getD pairs (2 * p + 1) 0
+
+abbrev pub endIn : (pairs : List ℕ) → ℕ → ℕ
+endIn pairs p = offsetIn pairs p + lengthIn pairs p
+
+abbrev pub lexemeIn : (text pairs : List ℕ) → ℕ → List ℕ
+lexemeIn text pairs p = take (lengthIn pairs p) (drop (offsetIn pairs p) text)
 
 abbrev pub lexemeAt : Line → ℕ → List ℕ
-lexemeAt l p = take (lengthAt l p) (drop (offsetAt l p) (l .text))
+lexemeAt l p = lexemeIn (l .text) (l .pairs) p
 
 pub record Token : Type 0 where
   pub place : ℕ
@@ -49,6 +56,9 @@ mostTokens = 4096
 
 abbrev pub mostBytes : ℕ
 mostBytes = 65535
+
+abbrev pub limits : List ℕ
+limits = mostTokens ∷ mostBytes ∷ []
 
 -- 5: "some kind over 50"
 unfoldable pub someOver : List ℕ → Bool
@@ -81,21 +91,9 @@ check false n rest = rest
 -- the number with which a line of at most `most` tokens is refused, 0 where it is not
 unfoldable pub refusal : (most : ℕ) → Line → ℕ
 refusal most l =
-    check (eqb (length (l .kinds)) 0) 1
-    (check (ltb most (length (l .kinds))) 2
-    (check (ltb mostBytes (length (l .text))) 3
-    (check (not (eqb (length (l .pairs)) (2 * length (l .kinds)))) 4
-    (check (someOver (l .kinds)) 5
-    (check (misplaced (length (l .text)) 0 (l .pairs)) 6 0)))))
-
--- ---- `is_block_attr_list`, of a line that is not refused
-
--- the kind of the token that is n tokens before the end
-abbrev pub fromEnd : ℕ → List ℕ → ℕ
-fromEnd n kinds = getD kinds (length kinds - n) 0
-
--- the first token is OpenBracket, the last CloseBracket, the one before the last not Backslash, the second not OpenBracket
-unfoldable pub isBlockAttrList : List ℕ → Bool
-isBlockAttrList kinds =
-    eqb (getD kinds 0 0) openBracket && eqb (fromEnd 1 kinds) closeBracket && not (eqb (fromEnd 2 kinds) backslash)
-    && not (eqb (getD kinds 1 0) openBracket)
+    check (eqb (length (l .kinds)) 0) noTokens
+    (check (ltb most (length (l .kinds))) tooManyTokens
+    (check (ltb mostBytes (length (l .text))) textTooLong
+    (check (not (eqb (length (l .pairs)) (2 * length (l .kinds)))) pairsNotTwo
+    (check (someOver (l .kinds)) kindTooLarge
+    (check (misplaced (length (l .text)) 0 (l .pairs)) pairsNotInOrder 0)))))

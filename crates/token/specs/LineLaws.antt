@@ -7,8 +7,9 @@ use mathlib.Core.List.{List, [], _∷_}
 use lib.Dec.{eqb, ltb}
 use lib.ListN.{length, getD}
 use borrow.Author.Tests.{ne-eqb, eqb-true, eqb-false, le-ltb, ltb-true, ltb-false}
+use Rattle.refusals.specs.Refusals.{noTokens, tooManyTokens, textTooLong, pairsNotTwo, kindTooLarge, pairsNotInOrder}
 use Rattle.token.specs.Kind.{largest, closeBracket, openBracket}
-use Rattle.token.specs.Line.{lineOf, mostTokens, mostBytes, someOver, misplaced, Over, Placed, check, refusal, isBlockAttrList}
+use Rattle.token.specs.Line.{lineOf, mostTokens, mostBytes, someOver, misplaced, Over, Placed, check, refusal}
 use Rattle.token.specs.Lent.{Lent}
 
 -- ---- 5 and 6 in words
@@ -82,7 +83,8 @@ placed-not size end (o ∷ n ∷ ps) w =
     (placed-not size (o + n) ps (record { first = λ h. w .follows 0 (omega (arith, h)); follows = λ p h. next-follows p h; within = λ p h. next-within p h }))
   where
     next-follows : (p : ℕ) → 2 * p + 3 < length ps → getD ps (2 * p) 0 + getD ps (2 * p + 1) 0 ≤ getD ps (2 * p + 2) 0
-    next-follows p h = subst (λ (x : ℕ). getD (o ∷ n ∷ ps) x 0 + getD ps (2 * p + 1) 0 ≤ getD ps (2 * p + 2) 0) (twice p) (subst (λ (x : ℕ). getD (o ∷ n ∷ ps) (2 * suc p) 0 + getD (o ∷ n ∷ ps) x 0 ≤ getD ps (2 * p + 2) 0) (twice-1 p) (subst (λ (x : ℕ). getD (o ∷ n ∷ ps) (2 * suc p) 0 + getD (o ∷ n ∷ ps) (2 * suc p + 1) 0 ≤ getD (o ∷ n ∷ ps) x 0) (twice-2 p) (w .follows (suc p) (omega (arith, h)))))
+    next-follows p h = subst (λ (x : ℕ). getD (o ∷ n ∷ ps) x 0 + getD ps (2 * p + 1) 0 ≤ getD ps (2 * p + 2) 0) (twice p)
+        (subst (λ (x : ℕ). getD (o ∷ n ∷ ps) (2 * suc p) 0 + getD (o ∷ n ∷ ps) x 0 ≤ getD ps (2 * p + 2) 0) (twice-1 p) (subst (λ (x : ℕ). getD (o ∷ n ∷ ps) (2 * suc p) 0 + getD (o ∷ n ∷ ps) (2 * suc p + 1) 0 ≤ getD (o ∷ n ∷ ps) x 0) (twice-2 p) (w .follows (suc p) (omega (arith, h)))))
 
     next-within : (p : ℕ) → 2 * p + 1 < length ps → getD ps (2 * p) 0 + getD ps (2 * p + 1) 0 ≤ size
     next-within p h = subst (λ (x : ℕ). getD (o ∷ n ∷ ps) x 0 + getD ps (2 * p + 1) 0 ≤ size) (twice p) (subst (λ (x : ℕ). getD (o ∷ n ∷ ps) (2 * suc p) 0 + getD (o ∷ n ∷ ps) x 0 ≤ size) (twice-1 p) (w .within (suc p) (omega (arith, h))))
@@ -100,12 +102,12 @@ not-no false e = sym e
 pub lent : (most : ℕ) (kinds text pairs : List ℕ) → most ≤ mostTokens → refusal most (lineOf kinds text pairs) ≡ 0 → Lent kinds text pairs
 unfolding refusal
 lent most kinds text pairs few e =
-    let c1 = check-none (eqb (length kinds) 0) 1 _ (omega arith) e in
-    let c2 = check-none (ltb most (length kinds)) 2 _ (omega arith) (c1 .1) in
-    let c3 = check-none (ltb mostBytes (length text)) 3 _ (omega arith) (c2 .1) in
-    let c4 = check-none (not (eqb (length pairs) (2 * length kinds))) 4 _ (omega arith) (c3 .1) in
-    let c5 = check-none (someOver kinds) 5 _ (omega arith) (c4 .1) in
-    let c6 = check-none (misplaced (length text) 0 pairs) 6 0 (omega arith) (c5 .1) in
+    let c1 = check-none (eqb (length kinds) 0) noTokens _ (omega arith) e in
+    let c2 = check-none (ltb most (length kinds)) tooManyTokens _ (omega arith) (c1 .1) in
+    let c3 = check-none (ltb mostBytes (length text)) textTooLong _ (omega arith) (c2 .1) in
+    let c4 = check-none (not (eqb (length pairs) (2 * length kinds))) pairsNotTwo _ (omega arith) (c3 .1) in
+    let c5 = check-none (someOver kinds) kindTooLarge _ (omega arith) (c4 .1) in
+    let c6 = check-none (misplaced (length text) 0 pairs) pairsNotInOrder 0 (omega arith) (c5 .1) in
     let paired : length pairs ≡ 2 * length kinds = eqb-true (length pairs) (2 * length kinds) (not-no (eqb (length pairs) (2 * length kinds)) (c4 .0)) in
     let none : length kinds ≡ 0 → ⊥ = eqb-false (length kinds) 0 (c1 .0) in
     let n : length kinds ≤ most = ltb-false most (length kinds) (c2 .0) in
@@ -120,17 +122,3 @@ lent most kinds text pairs few e =
     positive : (x : ℕ) → (x ≡ 0 → ⊥) → 0 < x
     positive zero h = absurd (h refl)
     positive (suc x) h = omega arith
-
--- ---- `is_block_attr_list`: one token is no
-
-pub single-not : (kinds : List ℕ) → length kinds < 2 → false ≡ isBlockAttrList kinds
-unfolding isBlockAttrList
-single-not [] h = refl
-single-not (k ∷ []) h = go (eqb k openBracket) refl
-  where
-    go : (b : Bool) → eqb k openBracket ≡ b → false ≡ (b && eqb k closeBracket && not (eqb k Rattle.token.specs.Kind.backslash) && not (eqb 0 openBracket))
-    go true e =
-        let z : eqb k closeBracket ≡ false = ne-eqb k closeBracket (λ f. omega (arith, f, eqb-true k openBracket e)) in
-        rw z
-    go false e = refl
-single-not (k ∷ l ∷ ks) h = absurd (omega (arith, h))

@@ -3,7 +3,7 @@ pub mod kind;
 pub mod line;
 pub mod names;
 pub mod runs;
-pub mod steps;
+mod steps;
 
 // A token place: counts tokens.
 pub struct TokenPlace(pub usize);
@@ -15,10 +15,4 @@ pub struct ByteOffset(pub usize);
 pub struct Run {
     pub place: TokenPlace,
     pub count: usize,
-}
-
-// Whether a line is a block attribute list, or the number with which it is refused.
-pub enum BlockLine {
-    Refused(usize),
-    Is(bool),
 }

@@ -1,21 +1,30 @@
 // The checks of a line, and what is read of its tokens' lexemes.
+use refusals::KIND_TOO_LARGE;
+use refusals::NO_TOKENS;
+use refusals::PAIRS_NOT_IN_ORDER;
+use refusals::PAIRS_NOT_TWO;
+use refusals::TEXT_TOO_LONG;
+use refusals::TOO_MANY_TOKENS;
 ghost use mathlib.Core.Path.{_≡_};
 ghost use Prim.Native.Nat.{_+_, _*_, _≤_, _<_};
-ghost use lib.ListN.{length, getD};
-ghost use Rattle.token.specs.Line.{lineOf, someOver, misplaced, refusal, isBlockAttrList};
-ghost use Rattle.token.specs.Block.{blockLine};
-use super::BlockLine;
+ghost use lib.ListN.{length};
+ghost use Rattle.token.specs.Line.{offsetIn, lengthIn, limits, someOver, misplaced, refusal};
+ghost use Rattle.token.specs.Lent.{line};
 use super::ByteOffset;
 use super::TokenPlace;
-use super::kind::BACKSLASH;
-use super::kind::CLOSE_BRACKET;
-use super::kind::OPEN_BRACKET;
 use super::kind::WORD;
 
 // The most tokens and the most bytes of a line.
 pub const MOST_TOKENS: usize = 4096;
 
 pub const MOST_BYTES: usize = 65535;
+
+// Both.
+pub fn limits() -> [usize; 2]
+    ensures { λ r. ⌜ r ≡ limits ⌝ }
+{
+    [MOST_TOKENS, MOST_BYTES]
+}
 
 fn wide(x: u32) -> usize
     ensures { λ r. ⌜ r ≡ x ⌝ }
@@ -26,7 +35,7 @@ fn wide(x: u32) -> usize
 // The byte offset of a token's lexeme.
 pub fn offset_of(pairs: &[u32], p: TokenPlace) -> ByteOffset
     requires { ⌜ 2 * p .0 + 1 < length (now pairs) ⌝ }
-    ensures { λ r. ⌜ r .0 ≡ getD (now (pairs .entry)) (2 * p .0) 0 ⌝ }
+    ensures { λ r. ⌜ r .0 ≡ offsetIn (now (pairs .entry)) (p .0) ⌝ }
 {
     let at = 2 * p.0;
     ByteOffset(wide(pairs[at]))
@@ -35,7 +44,7 @@ pub fn offset_of(pairs: &[u32], p: TokenPlace) -> ByteOffset
 // The length of a token's lexeme, in bytes.
 pub fn length_of(pairs: &[u32], p: TokenPlace) -> usize
     requires { ⌜ 2 * p .0 + 1 < length (now pairs) ⌝ }
-    ensures { λ r. ⌜ r ≡ getD (now (pairs .entry)) (2 * p .0 + 1) 0 ⌝ }
+    ensures { λ r. ⌜ r ≡ lengthIn (now (pairs .entry)) (p .0) ⌝ }
 {
     let at = 2 * p.0 + 1;
     wide(pairs[at])
@@ -76,60 +85,29 @@ fn some_misplaced(pairs: &[u32], tokens: usize, size: usize) -> bool
 
 // The number with which a line of at most `most` tokens is refused, 0 where it is not.
 pub fn line_refusal<'a>(kinds: &'a [u8], text: &'a [u8], pairs: &'a [u32], most: usize) -> usize
-    ensures { λ r. ⌜ r ≡ refusal most (lineOf (now (kinds .entry)) (now (text .entry)) (now (pairs .entry))) ⌝ }
+    ensures { λ r. ⌜ r ≡ refusal most (line (kinds .entry) (text .entry) (pairs .entry)) ⌝ }
 {
     let tokens = kinds.len();
     if tokens == 0 {
-        return 1;
+        return NO_TOKENS;
     }
     if tokens > most {
-        return 2;
+        return TOO_MANY_TOKENS;
     }
     if text.len() > MOST_BYTES {
-        return 3;
+        return TEXT_TOO_LONG;
     }
     if pairs.len() < tokens {
-        return 4;
+        return PAIRS_NOT_TWO;
     }
     if pairs.len() - tokens != tokens {
-        return 4;
+        return PAIRS_NOT_TWO;
     }
     if some_over(kinds) {
-        return 5;
+        return KIND_TOO_LARGE;
     }
     if some_misplaced(pairs, tokens, text.len()) {
-        return 6;
+        return PAIRS_NOT_IN_ORDER;
     }
     0
-}
-
-// Whether the kinds of a line are those of a block attribute list.
-fn bracketed(kinds: &[u8]) -> bool
-    ensures { λ r. ⌜ r ≡ isBlockAttrList (now (kinds .entry)) ⌝ }
-{
-    let tokens = kinds.len();
-    if tokens < 2 {
-        return false;
-    }
-    if kinds[0] != OPEN_BRACKET {
-        return false;
-    }
-    if kinds[tokens - 1] != CLOSE_BRACKET {
-        return false;
-    }
-    if kinds[tokens - 2] == BACKSLASH {
-        return false;
-    }
-    kinds[1] != OPEN_BRACKET
-}
-
-// Whether a line is a block attribute list; here its text begins with the opening bracket.
-pub fn is_block_attr_list<'a>(kinds: &'a [u8], text: &'a [u8], pairs: &'a [u32]) -> BlockLine
-    ensures { λ r. ⌜ r ≡ blockLine (lineOf (now (kinds .entry)) (now (text .entry)) (now (pairs .entry))) ⌝ }
-{
-    let refused = line_refusal(kinds, text, pairs, MOST_TOKENS);
-    if refused != 0 {
-        return BlockLine::Refused(refused);
-    }
-    BlockLine::Is(bracketed(kinds))
 }

@@ -1,9 +1,9 @@
 // Names by the bytes of their tokens, which are not copied.
 ghost use mathlib.Core.Path.{_≡_};
 ghost use Prim.Native.Nat.{_+_, _*_, _≤_, _<_};
-ghost use lib.ListN.{length, getD, take, drop};
-ghost use Rattle.token.specs.Line.{lineOf};
-ghost use Rattle.token.specs.Lent.{Lent};
+ghost use lib.ListN.{length, drop};
+ghost use Rattle.token.specs.Line.{endIn, lexemeIn};
+ghost use Rattle.token.specs.Lent.{Lent, line};
 ghost use Rattle.token.specs.Run.{isWhitespace, without, kept};
 ghost use Rattle.token.specs.Names.{bytes, sameBytes, prefix};
 use super::TokenPlace;
@@ -31,8 +31,8 @@ fn starts_with<'a>(start: &'a [u8], name: &'a [u8]) -> bool
 
 // Whether what is left of `name` from `at` on begins with the lexeme of a token.
 fn goes_on<'a>(text: &'a [u8], pairs: &'a [u32], p: TokenPlace, name: &'a [u8], at: usize) -> bool
-    requires { ⌜ (2 * p .0 + 1 < length (now pairs)) × (getD (now pairs) (2 * p .0) 0 + getD (now pairs) (2 * p .0 + 1) 0 ≤ length (now text)) × (at ≤ length (now name)) ⌝ }
-    ensures { λ r. ⌜ r ≡ prefix (take (getD (now (pairs .entry)) (2 * p .0 + 1) 0) (drop (getD (now (pairs .entry)) (2 * p .0) 0) (now (text .entry)))) (drop at (now (name .entry))) ⌝ }
+    requires { ⌜ (2 * p .0 + 1 < length (now pairs)) × (endIn (now pairs) (p .0) ≤ length (now text)) × (at ≤ length (now name)) ⌝ }
+    ensures { λ r. ⌜ r ≡ prefix (lexemeIn (now (text .entry)) (now (pairs .entry)) (p .0)) (drop at (now (name .entry))) ⌝ }
 {
     let offset = offset_of(pairs, p);
     let start = offset.0;
@@ -51,7 +51,7 @@ pub fn name_is<'a>(
 ) -> bool
     requires { ⌜ Lent (now kinds) (now text) (now pairs) ⌝ }
     requires { ⌜ (from .0 ≤ to .0) × (to .0 ≤ length (now kinds)) ⌝ }
-    ensures { λ r. ⌜ r ≡ sameBytes (bytes (without isWhitespace (kept (lineOf (now (kinds .entry)) (now (text .entry)) (now (pairs .entry))) (from .0) (to .0)))) (now (name .entry)) ⌝ }
+    ensures { λ r. ⌜ r ≡ sameBytes (bytes (without isWhitespace (kept (line (kinds .entry) (text .entry) (pairs .entry)) (from .0) (to .0)))) (now (name .entry)) ⌝ }
 {
     let end = to.0;
     let mut i = from.0;

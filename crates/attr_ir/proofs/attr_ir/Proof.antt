@@ -36,10 +36,15 @@ returns : tie.Need-returns
 returns c = ir-shorthand _ _ _ _ _ _ _ (c .before .before .before .look .ensures) (c .before .enum-told .given .1) _ (c .run-of .ensures .0) (c .run-of .ensures .1)
 
 returns-2 : tie.Need-returns-2
-returns-2 c = ir-positional _ _ _ _ _ _ _ (c .before .before .before .before .before .before .look .ensures) (c .before .before .before .before .reading .given .0 .0) (c .before .before .before .before .reading .given .1) _ (c .before .unquote .ensures .0) (c .before .unquote .ensures .1) (c .before .before .both .result) (c .before .before .both .ensures) _ (c .to-cut .ensures)
+returns-2 c =
+    let look-call = c .before .before .before .before .before .before .look in
+    let reading = c .before .before .before .before .reading in
+    let both-call = c .before .before .both in
+    let unquote-call = c .before .unquote in
+    ir-positional _ _ _ _ _ _ _ (look-call .ensures) (reading .given .0 .0) (reading .given .1) _ (unquote-call .ensures .0) (unquote-call .ensures .1) (both-call .result) (both-call .ensures) _ (c .to-cut .ensures)
 
 returns-3 : tie.Need-returns-3
-returns-3 c = ir-named _ _ _ _ _ _ _ (c .before .before .before .look .ensures) (c .before .enum-told2 .given .1) _ (c .parse-key-value-attr .ensures .0) (c .parse-key-value-attr .ensures .1 .0) (c .parse-key-value-attr .ensures .1 .1)
+returns-3 c = ir-named _ _ _ _ _ _ _ (c .before .before .before .look .ensures) (c .before .enum-told2 .given .1) _ (c .parse-key-value-attr .ensures)
 
 pub attr-ir-spec : {M : Type 1} → statement M
 attr-ir-spec =

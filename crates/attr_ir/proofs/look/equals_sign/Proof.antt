@@ -17,16 +17,22 @@ length-of-requires : tie.Need-length-of-requires
 length-of-requires c κs = omega (arith, c .before .before .before .before .before .pre .0 .paired, c .before .before .before .before .before .pre .1)
 
 returns-2 : tie.Need-returns-2
-returns-2 c = equals-not-one _ _ _ (c .before .before .before .before .before .before .before .pre .0) _ (c .before .before .before .before .before .before .before .pre .1) (λ e. c .if2 .taken (c .before .length-of .ensures ∙ e))
+returns-2 c =
+    let p = c .before .before .before .before .before .before .before .pre in
+    equals-not-one _ _ _ (p .0) _ (p .1) (λ e. c .if2 .taken (c .before .length-of .ensures ∙ e))
 
 offset-of-requires : tie.Need-offset-of-requires
 offset-of-requires c κs = omega (arith, c .before .before .before .before .before .before .before .pre .0 .paired, c .before .before .before .before .before .before .before .pre .1)
 
 shared-slice-read-result : tie.Need-shared-slice-read-result
-shared-slice-read-result c = omega (arith, c .before .before .before .before .before .before .before .before .before .pre .0 .within _ (c .before .before .before .before .before .before .before .before .before .pre .1), c .before .offset-of .ensures, c .before .before .before .length-of .ensures, c .before .before .if2 .left)
+shared-slice-read-result c =
+    let p = c .before .before .before .before .before .before .before .before .before .pre in
+    omega (arith, p .0 .within _ (p .1), c .before .offset-of .ensures, c .before .before .before .length-of .ensures, c .before .before .if2 .left)
 
 returns-3 : tie.Need-returns-3
-returns-3 c = rw (c .before .offset-of .ensures) (equals-byte _ _ _ (c .before .before .before .before .before .before .before .before .before .pre .0) _ (c .before .before .before .before .before .before .before .before .before .pre .1) (c .before .before .before .before .if1 .left) (sym (c .before .before .before .length-of .ensures) ∙ c .before .before .if2 .left))
+returns-3 c =
+    let p = c .before .before .before .before .before .before .before .before .before .pre in
+    rw (c .before .offset-of .ensures) (equals-byte _ _ _ (p .0) _ (p .1) (c .before .before .before .before .if1 .left) (sym (c .before .before .before .length-of .ensures) ∙ c .before .before .if2 .left))
 
 pub equals-sign-spec : {M : Type 1} → statement M
 equals-sign-spec =

@@ -27,13 +27,21 @@ first-kept-requires-2 : tie.Need-first-kept-requires-2 Inv-loop μ-loop
 first-kept-requires-2 c κs = (omega arith, omega arith)
 
 sight-at-requires : tie.Need-sight-at-requires Inv-loop μ-loop
-sight-at-requires c κs = (c .before .before .before .before .before .before .before .pre .0, ((omega (arith, c .first-kept2 .ensures .1 .part .low), omega (arith, c .first-kept2 .ensures .1 .part .mid), omega arith), c .first-kept2 .ensures .1))
+sight-at-requires c κs =
+    let p = c .before .before .before .before .before .before .before .pre in
+    (p .0, ((omega (arith, c .first-kept2 .ensures .1 .part .low), omega (arith, c .first-kept2 .ensures .1 .part .mid), omega arith), c .first-kept2 .ensures .1))
 
 enum-known-seen : tie.Need-enum-known-seen Inv-loop μ-loop
 enum-known-seen c = c .match .keys1
 
 returns : tie.Need-returns Inv-loop μ-loop
-returns c = looking-is _ _ _ _ _ _ (c .before .before .before .before .before .before .loop .first) (c .before .before .before .before .before .before .loop .noted) (c .before .before .before .before .before .before .loop .at) (c .before .before .before .before .before .before .loop .inv) (c .before .before .before .before .first-kept2 .result .0) (c .before .before .before .before .first-kept2 .ensures .1) (c .before .before .before .before .before .loop-test .taken) (c .before .seen .given .0 .0) (sym (c .before .seen .given .1) ∙ c .before .before .before .sight-at .ensures) ∙ ap (look (c .before .before .before .before .before .before .before .before .before .before .before .args .block) true false) (c .before .before .before .before .before .before .before .first-kept .ensures .1 .part .same _ _)
+returns c =
+    let a = c .before .before .before .before .before .before .before .before .before .before .before .args in
+    let first-kept-call = c .before .before .before .before .before .before .before .first-kept in
+    let l = c .before .before .before .before .before .before .loop in
+    let first-kept2-call = c .before .before .before .before .first-kept2 in
+    let seen = c .before .seen in
+    looking-is _ _ _ _ _ _ (l .first) (l .noted) (l .at) (l .inv) (first-kept2-call .result .0) (first-kept2-call .ensures .1) (c .before .before .before .before .before .loop-test .taken) (seen .given .0 .0) (sym (seen .given .1) ∙ c .before .before .before .sight-at .ensures) ∙ ap (look (a .block) true false) (first-kept-call .ensures .1 .part .same _ _)
 
 enum-known-seen-2 : tie.Need-enum-known-seen-2 Inv-loop μ-loop
 enum-known-seen-2 c = c .match .keys2
@@ -42,10 +50,17 @@ loop-less : tie.Need-loop-less Inv-loop μ-loop
 loop-less c = omega (arith, c .before .before .before .before .first-kept2 .ensures .1 .part .low)
 
 loop-again : tie.Need-loop-again Inv-loop μ-loop
-loop-again c = looking-on _ _ _ _ _ _ (c .before .before .before .before .before .before .loop .first) (c .before .before .before .before .before .before .loop .noted) (c .before .before .before .before .before .before .loop .at) (c .before .before .before .before .before .before .loop .inv) (c .before .before .before .before .first-kept2 .result .0) (c .before .before .before .before .first-kept2 .ensures .1) (c .before .before .before .before .before .loop-test .taken) (c .before .seen2 .given .0 .0) (sym (c .before .seen2 .given .1) ∙ c .before .before .before .sight-at .ensures)
+loop-again c =
+    let l = c .before .before .before .before .before .before .loop in
+    let first-kept2-call = c .before .before .before .before .first-kept2 in
+    let seen2 = c .before .seen2 in
+    looking-on _ _ _ _ _ _ (l .first) (l .noted) (l .at) (l .inv) (first-kept2-call .result .0) (first-kept2-call .ensures .1) (c .before .before .before .before .before .loop-test .taken) (seen2 .given .0 .0) (sym (seen2 .given .1) ∙ c .before .before .before .sight-at .ensures)
 
 returns-2 : tie.Need-returns-2 Inv-loop μ-loop
-returns-2 c = looking-end _ _ _ _ _ _ (c .before .loop .first) (c .before .loop .noted) (c .before .loop .at) (c .before .loop .inv) (c .loop-test .left) ∙ ap (look (c .before .before .before .before .before .before .args .block) true false) (c .before .before .first-kept .ensures .1 .part .same _ _)
+returns-2 c =
+    let a = c .before .before .before .before .before .before .args in
+    let l = c .before .loop in
+    looking-end _ _ _ _ _ _ (l .first) (l .noted) (l .at) (l .inv) (c .loop-test .left) ∙ ap (look (a .block) true false) (c .before .before .first-kept .ensures .1 .part .same _ _)
 
 pub look-spec : {M : Type 1} → statement M
 look-spec =

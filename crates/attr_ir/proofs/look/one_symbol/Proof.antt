@@ -22,7 +22,10 @@ both-requires : tie.Need-both-requires
 both-requires c κs = search needs
 
 returns : tie.Need-returns
-returns c = c .both .ensures ∙ ap (λ (n : ℕ). c .before .before .symbol-kind .result && eqb n 1) (c .before .length-of .ensures) ∙ symbol-of _ _ _ (c .before .before .before .before .before .before .before .pre .0) _ (c .before .before .before .before .before .before .before .pre .1) (c .before .before .symbol-kind .result) (c .before .before .symbol-kind .ensures)
+returns c =
+    let p = c .before .before .before .before .before .before .before .pre in
+    let symbol-kind-call = c .before .before .symbol-kind in
+    c .both .ensures ∙ ap (λ (n : ℕ). symbol-kind-call .result && eqb n 1) (c .before .length-of .ensures) ∙ symbol-of _ _ _ (p .0) _ (p .1) (symbol-kind-call .result) (symbol-kind-call .ensures)
 
 pub one-symbol-spec : {M : Type 1} → statement M
 one-symbol-spec =

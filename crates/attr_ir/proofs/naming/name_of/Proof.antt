@@ -34,7 +34,10 @@ name-is-requires-3 c κs = search needs
 
 returns-3 : tie.Need-returns-3
 unfolding nameOf
-returns-3 c = rw (sym (c .before .before .before .before .before .before .before .name-is .ensures) ∙ c .before .before .before .before .before .before .if1 .left, sym (c .before .before .before .before .name-is2 .ensures) ∙ c .before .before .before .if2 .left, sym (c .before .name-is3 .ensures) ∙ c .if3 .taken)
+returns-3 c =
+    let name-is-call = c .before .before .before .before .before .before .before .name-is in
+    let if1 = c .before .before .before .before .before .before .if1 in
+    rw (sym (name-is-call .ensures) ∙ if1 .left, sym (c .before .before .before .before .name-is2 .ensures) ∙ c .before .before .before .if2 .left, sym (c .before .name-is3 .ensures) ∙ c .if3 .taken)
 
 slice-aggregate-name-is-4 : tie.Need-slice-aggregate-name-is-4
 slice-aggregate-name-is-4 c = search needs
@@ -44,7 +47,12 @@ name-is-requires-4 c κs = search needs
 
 returns-4 : tie.Need-returns-4
 unfolding nameOf
-returns-4 c = rw (sym (c .before .before .before .before .before .before .before .before .before .before .name-is .ensures) ∙ c .before .before .before .before .before .before .before .before .before .if1 .left, sym (c .before .before .before .before .before .before .before .name-is2 .ensures) ∙ c .before .before .before .before .before .before .if2 .left, sym (c .before .before .before .before .name-is3 .ensures) ∙ c .before .before .before .if3 .left, sym (c .before .name-is4 .ensures) ∙ c .if4 .taken)
+returns-4 c =
+    let name-is-call = c .before .before .before .before .before .before .before .before .before .before .name-is in
+    let if1 = c .before .before .before .before .before .before .before .before .before .if1 in
+    let name-is2-call = c .before .before .before .before .before .before .before .name-is2 in
+    let if2 = c .before .before .before .before .before .before .if2 in
+    rw (sym (name-is-call .ensures) ∙ if1 .left, sym (name-is2-call .ensures) ∙ if2 .left, sym (c .before .before .before .before .name-is3 .ensures) ∙ c .before .before .before .if3 .left, sym (c .before .name-is4 .ensures) ∙ c .if4 .taken)
 
 slice-aggregate-name-is-5 : tie.Need-slice-aggregate-name-is-5
 slice-aggregate-name-is-5 c = search needs
@@ -54,7 +62,14 @@ name-is-requires-5 c κs = search needs
 
 returns-5 : tie.Need-returns-5
 unfolding nameOf
-returns-5 c = rw (sym (c .before .before .before .before .before .before .before .before .before .before .before .before .before .name-is .ensures) ∙ c .before .before .before .before .before .before .before .before .before .before .before .before .if1 .left, sym (c .before .before .before .before .before .before .before .before .before .before .name-is2 .ensures) ∙ c .before .before .before .before .before .before .before .before .before .if2 .left, sym (c .before .before .before .before .before .before .before .name-is3 .ensures) ∙ c .before .before .before .before .before .before .if3 .left, sym (c .before .before .before .before .name-is4 .ensures) ∙ c .before .before .before .if4 .left, sym (c .before .name-is5 .ensures) ∙ c .if5 .taken)
+returns-5 c =
+    let name-is-call = c .before .before .before .before .before .before .before .before .before .before .before .before .before .name-is in
+    let if1 = c .before .before .before .before .before .before .before .before .before .before .before .before .if1 in
+    let name-is2-call = c .before .before .before .before .before .before .before .before .before .before .name-is2 in
+    let if2 = c .before .before .before .before .before .before .before .before .before .if2 in
+    let name-is3-call = c .before .before .before .before .before .before .before .name-is3 in
+    let if3 = c .before .before .before .before .before .before .if3 in
+    rw (sym (name-is-call .ensures) ∙ if1 .left, sym (name-is2-call .ensures) ∙ if2 .left, sym (name-is3-call .ensures) ∙ if3 .left, sym (c .before .before .before .before .name-is4 .ensures) ∙ c .before .before .before .if4 .left, sym (c .before .name-is5 .ensures) ∙ c .if5 .taken)
 
 slice-aggregate-name-is-6 : tie.Need-slice-aggregate-name-is-6
 slice-aggregate-name-is-6 c = search needs
@@ -64,11 +79,29 @@ name-is-requires-6 c κs = search needs
 
 returns-6 : tie.Need-returns-6
 unfolding nameOf
-returns-6 c = rw (sym (c .before .before .before .before .before .before .before .before .before .before .before .before .before .before .before .before .name-is .ensures) ∙ c .before .before .before .before .before .before .before .before .before .before .before .before .before .before .before .if1 .left, sym (c .before .before .before .before .before .before .before .before .before .before .before .before .before .name-is2 .ensures) ∙ c .before .before .before .before .before .before .before .before .before .before .before .before .if2 .left, sym (c .before .before .before .before .before .before .before .before .before .before .name-is3 .ensures) ∙ c .before .before .before .before .before .before .before .before .before .if3 .left, sym (c .before .before .before .before .before .before .before .name-is4 .ensures) ∙ c .before .before .before .before .before .before .if4 .left, sym (c .before .before .before .before .name-is5 .ensures) ∙ c .before .before .before .if5 .left, sym (c .before .name-is6 .ensures) ∙ c .if6 .taken)
+returns-6 c =
+    let name-is-call = c .before .before .before .before .before .before .before .before .before .before .before .before .before .before .before .before .name-is in
+    let if1 = c .before .before .before .before .before .before .before .before .before .before .before .before .before .before .before .if1 in
+    let name-is2-call = c .before .before .before .before .before .before .before .before .before .before .before .before .before .name-is2 in
+    let if2 = c .before .before .before .before .before .before .before .before .before .before .before .before .if2 in
+    let name-is3-call = c .before .before .before .before .before .before .before .before .before .before .name-is3 in
+    let if3 = c .before .before .before .before .before .before .before .before .before .if3 in
+    let name-is4-call = c .before .before .before .before .before .before .before .name-is4 in
+    let if4 = c .before .before .before .before .before .before .if4 in
+    rw (sym (name-is-call .ensures) ∙ if1 .left, sym (name-is2-call .ensures) ∙ if2 .left, sym (name-is3-call .ensures) ∙ if3 .left, sym (name-is4-call .ensures) ∙ if4 .left, sym (c .before .before .before .before .name-is5 .ensures) ∙ c .before .before .before .if5 .left, sym (c .before .name-is6 .ensures) ∙ c .if6 .taken)
 
 returns-7 : tie.Need-returns-7
 unfolding nameOf
-returns-7 c = rw (sym (c .before .before .before .before .before .before .before .before .before .before .before .before .before .before .before .before .name-is .ensures) ∙ c .before .before .before .before .before .before .before .before .before .before .before .before .before .before .before .if1 .left, sym (c .before .before .before .before .before .before .before .before .before .before .before .before .before .name-is2 .ensures) ∙ c .before .before .before .before .before .before .before .before .before .before .before .before .if2 .left, sym (c .before .before .before .before .before .before .before .before .before .before .name-is3 .ensures) ∙ c .before .before .before .before .before .before .before .before .before .if3 .left, sym (c .before .before .before .before .before .before .before .name-is4 .ensures) ∙ c .before .before .before .before .before .before .if4 .left, sym (c .before .before .before .before .name-is5 .ensures) ∙ c .before .before .before .if5 .left, sym (c .before .name-is6 .ensures) ∙ c .if6 .left)
+returns-7 c =
+    let name-is-call = c .before .before .before .before .before .before .before .before .before .before .before .before .before .before .before .before .name-is in
+    let if1 = c .before .before .before .before .before .before .before .before .before .before .before .before .before .before .before .if1 in
+    let name-is2-call = c .before .before .before .before .before .before .before .before .before .before .before .before .before .name-is2 in
+    let if2 = c .before .before .before .before .before .before .before .before .before .before .before .before .if2 in
+    let name-is3-call = c .before .before .before .before .before .before .before .before .before .before .name-is3 in
+    let if3 = c .before .before .before .before .before .before .before .before .before .if3 in
+    let name-is4-call = c .before .before .before .before .before .before .before .name-is4 in
+    let if4 = c .before .before .before .before .before .before .if4 in
+    rw (sym (name-is-call .ensures) ∙ if1 .left, sym (name-is2-call .ensures) ∙ if2 .left, sym (name-is3-call .ensures) ∙ if3 .left, sym (name-is4-call .ensures) ∙ if4 .left, sym (c .before .before .before .before .name-is5 .ensures) ∙ c .before .before .before .if5 .left, sym (c .before .name-is6 .ensures) ∙ c .if6 .left)
 
 pub name-of-spec : {M : Type 1} → statement M
 name-of-spec =

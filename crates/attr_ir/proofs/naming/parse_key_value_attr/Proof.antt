@@ -39,19 +39,36 @@ name-run-requires-2 : tie.Need-name-run-requires-2
 name-run-requires-2 c κs = search needs
 
 returns : tie.Need-returns
-returns c = named-options _ _ _ _ _ _ (c .before .before .before .before .past .result .0) (c .before .before .before .before .before .find-kind .ensures .1) (c .before .before .before .before .past .ensures .0) (c .before .before .before .before .past .ensures .1 .0) (c .before .before .before .before .past .ensures .1 .1 .0) _ (c .before .before .before .value-run .ensures .0) (c .before .before .before .value-run .ensures .1) _ (c .before .before .name-of .ensures) (c .enum-told .given .1)
+returns c =
+    let past-call = c .before .before .before .before .past in
+    let value-run-call = c .before .before .before .value-run in
+    named-options _ _ _ _ _ _ (past-call .result .0) (c .before .before .before .before .before .find-kind .ensures .1) (past-call .ensures .0) (past-call .ensures .1 .0) (past-call .ensures .1 .1 .0) _ (value-run-call .ensures .0) (value-run-call .ensures .1) _ (c .before .before .name-of .ensures) (c .enum-told .given .1)
 
 returns-2 : tie.Need-returns-2
-returns-2 c = named-role _ _ _ _ _ _ (c .before .before .before .before .past .result .0) (c .before .before .before .before .before .find-kind .ensures .1) (c .before .before .before .before .past .ensures .0) (c .before .before .before .before .past .ensures .1 .0) (c .before .before .before .before .past .ensures .1 .1 .0) _ (c .before .before .before .value-run .ensures .0) (c .before .before .before .value-run .ensures .1) _ (c .before .before .name-of .ensures) (c .enum-told2 .given .1)
+returns-2 c =
+    let past-call = c .before .before .before .before .past in
+    let value-run-call = c .before .before .before .value-run in
+    named-role _ _ _ _ _ _ (past-call .result .0) (c .before .before .before .before .before .find-kind .ensures .1) (past-call .ensures .0) (past-call .ensures .1 .0) (past-call .ensures .1 .1 .0) _ (value-run-call .ensures .0) (value-run-call .ensures .1) _ (c .before .before .name-of .ensures) (c .enum-told2 .given .1)
 
 returns-3 : tie.Need-returns-3
-returns-3 c = named-id _ _ _ _ _ _ (c .before .before .before .before .past .result .0) (c .before .before .before .before .before .find-kind .ensures .1) (c .before .before .before .before .past .ensures .0) (c .before .before .before .before .past .ensures .1 .0) (c .before .before .before .before .past .ensures .1 .1 .0) _ (c .before .before .before .value-run .ensures .0) (c .before .before .before .value-run .ensures .1) _ (c .before .before .name-of .ensures) (c .enum-told3 .given .1)
+returns-3 c =
+    let past-call = c .before .before .before .before .past in
+    let value-run-call = c .before .before .before .value-run in
+    named-id _ _ _ _ _ _ (past-call .result .0) (c .before .before .before .before .before .find-kind .ensures .1) (past-call .ensures .0) (past-call .ensures .1 .0) (past-call .ensures .1 .1 .0) _ (value-run-call .ensures .0) (value-run-call .ensures .1) _ (c .before .before .name-of .ensures) (c .enum-told3 .given .1)
 
 returns-4 : tie.Need-returns-4
-returns-4 c = named-plain _ _ _ _ _ _ (c .before .before .before .before .before .past .result .0) (c .before .before .before .before .before .before .find-kind .ensures .1) (c .before .before .before .before .before .past .ensures .0) (c .before .before .before .before .before .past .ensures .1 .0) (c .before .before .before .before .before .past .ensures .1 .1 .0) _ (c .before .before .before .before .value-run .ensures .0) (c .before .before .before .before .value-run .ensures .1) _ (c .before .before .before .name-of .ensures) (c .name-run .result) (c .name-run .ensures .0) (c .name-run .ensures .1) (c .before .enum-told4 .given .1)
+returns-4 c =
+    let find-kind-call = c .before .before .before .before .before .before .find-kind in
+    let past-call = c .before .before .before .before .before .past in
+    let value-run-call = c .before .before .before .before .value-run in
+    named-plain _ _ _ _ _ _ (past-call .result .0) (find-kind-call .ensures .1) (past-call .ensures .0) (past-call .ensures .1 .0) (past-call .ensures .1 .1 .0) _ (value-run-call .ensures .0) (value-run-call .ensures .1) _ (c .before .before .before .name-of .ensures) (c .name-run .result) (c .name-run .ensures .0) (c .name-run .ensures .1) (c .before .enum-told4 .given .1)
 
 returns-5 : tie.Need-returns-5
-returns-5 c = named-other _ _ _ _ _ _ (c .before .before .before .before .before .past .result .0) (c .before .before .before .before .before .before .find-kind .ensures .1) (c .before .before .before .before .before .past .ensures .0) (c .before .before .before .before .before .past .ensures .1 .0) (c .before .before .before .before .before .past .ensures .1 .1 .0) _ (c .before .before .before .before .value-run .ensures .0) (c .before .before .before .before .value-run .ensures .1) _ (c .before .before .before .name-of .ensures) (c .name-run2 .result) (c .name-run2 .ensures .0) (c .name-run2 .ensures .1) (c .before .enum-told5 .given .1)
+returns-5 c =
+    let find-kind-call = c .before .before .before .before .before .before .find-kind in
+    let past-call = c .before .before .before .before .before .past in
+    let value-run-call = c .before .before .before .before .value-run in
+    named-other _ _ _ _ _ _ (past-call .result .0) (find-kind-call .ensures .1) (past-call .ensures .0) (past-call .ensures .1 .0) (past-call .ensures .1 .1 .0) _ (value-run-call .ensures .0) (value-run-call .ensures .1) _ (c .before .before .before .name-of .ensures) (c .name-run2 .result) (c .name-run2 .ensures .0) (c .name-run2 .ensures .1) (c .before .enum-told5 .given .1)
 
 pub parse-key-value-attr-spec : {M : Type 1} → statement M
 parse-key-value-attr-spec =

@@ -5,8 +5,7 @@ use native.Mathlib.Omega.{arith}
 use mathlib.Core.Path.{sym, subst, _∙_}
 use Rattle.token.specs.Line.{lineOf}
 use Rattle.row.specs.Row.{Fits}
-use Rattle.attribute.proofs.Whole.{all-told}
-use Rattle.attr_list.proofs.Attributes.{none-row, word-row}
+use Rattle.attr_list.proofs.Attributes.{attributed, none-row, word-row}
 use Rattle.attr_list.proofs.list.attr_rows.Statement.{statement}
 use Rattle.attr_list.proofs.list.attr_rows.Tie as tie
 
@@ -23,7 +22,8 @@ returns : tie.Need-returns
 returns c =
     let a = c .before .before .before .before .before .before .before .before .before .before .before .before .args in
     let put-one = c .before .before .put-one in
-    all-told _ (a .at) _ _ _ _ _ (put-one .ensures) (none-row (a .block) (a .has) (lineOf (a .kinds .now) (a .text .now) (a .pairs .now)) (a .from .0) (a .to .0) (c .before .before .before .before .before .if1 .taken) _ (c .before .before .before .one-run .ensures)) (omega (arith, put-one .ensures .wrote .count))
+    attributed (lineOf (a .kinds .now) (a .text .now) (a .pairs .now)) (a .from .0) (a .to .0) (a .block) (a .has) _ (a .at) _ _ _ (put-one .ensures)
+    (none-row (a .block) (a .has) (lineOf (a .kinds .now) (a .text .now) (a .pairs .now)) (a .from .0) (a .to .0) (c .before .before .before .before .before .if1 .taken) _ (c .before .before .before .one-run .ensures)) (omega (arith, put-one .ensures .wrote .count))
 
 one-word-requires : tie.Need-one-word-requires
 one-word-requires c κs = search needs
@@ -43,7 +43,8 @@ returns-2 : tie.Need-returns-2
 returns-2 c =
     let a = c .before .before .before .before .before .before .before .before .before .before .before .before .before .before .args in
     let put-one2 = c .before .before .put-one2 in
-    all-told _ (a .at) _ _ _ _ _ (put-one2 .ensures) (word-row (a .block) (a .has) (lineOf (a .kinds .now) (a .text .now) (a .pairs .now)) (a .from .0) (a .to .0) (sym (c .before .before .before .before .before .before .one-word .ensures) ∙ c .before .before .before .before .before .if2 .taken) _ (c .before .before .before .one-run2 .ensures)) (omega (arith, put-one2 .ensures .wrote .count))
+    attributed (lineOf (a .kinds .now) (a .text .now) (a .pairs .now)) (a .from .0) (a .to .0) (a .block) (a .has) _ (a .at) _ _ _ (put-one2 .ensures)
+    (word-row (a .block) (a .has) (lineOf (a .kinds .now) (a .text .now) (a .pairs .now)) (a .from .0) (a .to .0) (sym (c .before .before .before .before .before .before .one-word .ensures) ∙ c .before .before .before .before .before .if2 .taken) _ (c .before .before .before .one-run2 .ensures)) (omega (arith, put-one2 .ensures .wrote .count))
 
 parse-attr-requires : tie.Need-parse-attr-requires
 parse-attr-requires c κs = search needs
@@ -52,7 +53,7 @@ same-length-3 : tie.Need-same-length-3
 same-length-3 c = search needs
 
 returns-3 : tie.Need-returns-3
-returns-3 c = search needs
+returns-3 c = c .before .before .parse-attr .ensures
 
 pub attr-rows-spec : {M : Type 1} → statement M
 attr-rows-spec =

@@ -59,7 +59,7 @@ loop-again c =
     let l = c .before .before .before .before .before .before .before .loop in
     let wide = c .before .before .before .before .wide in
     let attr-rows = c .before .before .attr-rows in
-    next (lineOf (a .kinds .now) (a .text .now) (a .pairs .now)) (a .commas .now) (a .n) (a .end .0) (a .block) (a .rows .now) (c .before .before .before .before .before .before .before .before .before .before .before .before .before .pre .1 .0 .0) (l .rows) (l .from) (l .at) (l .id) (l .j) (l .inv) (wide .result) (c .before .before .before .before .before .before .loop-test .taken) (wide .ensures) (attr-rows .result) _ (attr-rows .ensures .0) (attr-rows .ensures .1 .0) (attr-rows .ensures .1 .1)
+    next (lineOf (a .kinds .now) (a .text .now) (a .pairs .now)) (a .commas .now) (a .n) (a .end .0) (a .block) (a .rows .now) (c .before .before .before .before .before .before .before .before .before .before .before .before .before .pre .1 .0 .0) (l .rows) (l .from) (l .at) (l .id) (l .j) (l .inv) (wide .result) (c .before .before .before .before .before .before .loop-test .taken) (wide .ensures) (attr-rows .result) _ (attr-rows .ensures)
 
 attr-rows-requires-2 : tie.Need-attr-rows-requires-2 Inv-loop μ-loop
 attr-rows-requires-2 c κs =
@@ -76,7 +76,7 @@ returns c =
     let a = c .before .before .before .before .before .before .before .before .before .before .before .args in
     let l = c .before .before .before .before .before .loop in
     let attr-rows2 = c .before .before .attr-rows2 in
-    last (lineOf (a .kinds .now) (a .text .now) (a .pairs .now)) (a .commas .now) (a .n) (a .end .0) (a .block) (a .rows .now) (c .before .before .before .before .before .before .before .before .before .before .before .pre .1 .0 .0) (l .rows) (l .from) (l .at) (l .id) (l .j) (l .inv) (c .before .before .before .before .loop-test .left) (attr-rows2 .result) _ (attr-rows2 .ensures .0) (attr-rows2 .ensures .1 .0)
+    last (lineOf (a .kinds .now) (a .text .now) (a .pairs .now)) (a .commas .now) (a .n) (a .end .0) (a .block) (a .rows .now) (c .before .before .before .before .before .before .before .before .before .before .before .pre .1 .0 .0) (l .rows) (l .from) (l .at) (l .id) (l .j) (l .inv) (c .before .before .before .before .loop-test .left) (attr-rows2 .result) _ (attr-rows2 .ensures)
 
 pub list-rows-spec : {M : Type 1} → statement M
 list-rows-spec =

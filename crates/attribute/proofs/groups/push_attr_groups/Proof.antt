@@ -19,13 +19,26 @@ find-kind-requires : tie.Need-find-kind-requires Inv-loop μ-loop
 find-kind-requires c κs = (omega (arith, c .loop .inv .high), omega arith, c .before .before .before .pre .0 .3)
 
 put-group-requires : tie.Need-put-group-requires Inv-loop μ-loop
-put-group-requires c κs = ((omega (arith, c .before .find-kind .ensures .1 .low), omega (arith, c .before .find-kind .ensures .1 .high), c .before .before .before .before .before .pre .0 .2), omega (arith, c .before .before .loop .inv .few, c .before .before .loop .inv .low, c .before .before .loop .inv .high, c .before .before .loop .inv .long, c .before .before .before .before .before .pre .1, c .before .find-kind .ensures .1 .high, c .before .find-kind .ensures .1 .low))
+put-group-requires c κs =
+    let f = c .before .find-kind .ensures .1 in
+    let l = c .before .before .loop .inv in
+    let p = c .before .before .before .before .before .pre in (
+      (omega (arith, f .low), omega (arith, f .high), p .0 .2),
+      omega (arith, l .few, l .low, l .high, l .long, p .1, f .high, f .low),
+    )
 
 same-length : tie.Need-same-length Inv-loop μ-loop
 same-length c = c .before .before .before .before .put-group .kept .1 .1 .1 .1 .0 ∙ c .before .before .before .before .before .before .before .loop .inv .long
 
 returns : tie.Need-returns Inv-loop μ-loop
-returns c = (grouping-done _ _ _ _ _ _ _ (c .before .before .before .before .before .before .before .loop .i) (c .before .before .before .before .before .before .before .loop .rows) (c .before .before .before .before .before .before .before .loop .n) (c .before .before .before .before .before .before .find-kind .result .0) (c .before .before .before .before .before .before .before .loop .inv) (c .before .before .before .before .before .before .find-kind .ensures .1) _ _ (c .before .before .before .before .put-group .ensures .0) (c .before .before .before .before .put-group .ensures .1) (c .if1 .taken), omega (arith, c .before .before .before .before .put-group .ensures .1, c .before .before .before .before .before .before .before .loop .inv .few, c .before .before .before .before .before .before .before .loop .inv .low, c .before .before .before .before .before .before .find-kind .ensures .1 .high, c .before .before .before .before .before .before .find-kind .ensures .1 .low))
+returns c =
+    let l = c .before .before .before .before .before .before .before .loop in
+    let f = c .before .before .before .before .before .before .find-kind in
+    let g = c .before .before .before .before .put-group .ensures in
+    record {
+      wrote = grouping-done _ _ _ _ _ _ _ (l .i) (l .rows) (l .n) (f .result .0) (l .inv) (f .ensures .1) _ _ (g .wrote) (g .few) (c .if1 .taken);
+      few = omega (arith, g .few, l .inv .few, l .inv .low, f .ensures .1 .high, f .ensures .1 .low);
+    }
 
 add-i : tie.Need-add-i Inv-loop μ-loop
 add-i c = omega arith
@@ -34,7 +47,11 @@ loop-less : tie.Need-loop-less Inv-loop μ-loop
 loop-less c = omega (arith, c .before .before .before .before .before .before .before .find-kind .ensures .1 .low, c .before .if1 .left)
 
 loop-again : tie.Need-loop-again Inv-loop μ-loop
-loop-again c = grouping-next _ _ _ _ _ _ _ (c .before .before .before .before .before .before .before .before .loop .i) (c .before .before .before .before .before .before .before .before .loop .rows) (c .before .before .before .before .before .before .before .before .loop .n) (c .before .before .before .before .before .before .before .find-kind .result .0) (c .before .before .before .before .before .before .before .before .loop .inv) (c .before .before .before .before .before .before .before .find-kind .ensures .1) _ _ (c .before .before .before .before .before .put-group .ensures .0) (c .before .before .before .before .before .put-group .ensures .1) (c .before .if1 .left) (c .before .before .before .before .before .put-group .kept .1 .1 .1 .1 .0)
+loop-again c =
+    let l = c .before .before .before .before .before .before .before .before .loop in
+    let f = c .before .before .before .before .before .before .before .find-kind in
+    let g = c .before .before .before .before .before .put-group in
+    grouping-next _ _ _ _ _ _ _ (l .i) (l .rows) (l .n) (f .result .0) (l .inv) (f .ensures .1) _ _ (g .ensures .wrote) (g .ensures .few) (c .before .if1 .left) (g .kept .1 .1 .1 .1 .0)
 
 pub push-attr-groups-spec : {M : Type 1} → statement M
 push-attr-groups-spec =

@@ -13,13 +13,19 @@ trim-requires : tie.Need-trim-requires
 trim-requires c κs = search needs
 
 returns : tie.Need-returns
-returns c = (group-none _ _ _ (c .before .trim .result) (c .before .trim .ensures .0) _ _ _ (c .if1 .taken), omega arith)
+returns c =
+    let t = c .before .trim in
+    record { wrote = group-none _ _ _ (t .result) (t .ensures .0) _ _ _ (c .if1 .taken); few = omega arith }
 
 one-run-requires : tie.Need-one-run-requires
 one-run-requires c κs = search needs
 
 put-row-requires : tie.Need-put-row-requires
-put-row-requires c κs = (omega (arith, c .before .before .before .trim .ensures .1 .few, c .before .before .if1 .left), subst (λ (r : Row). Fits r) (sym (c .one-run .ensures)) (record { first-place = omega (arith, c .before .before .before .trim .ensures .1 .within); first-count = omega (arith, c .before .before .before .trim .ensures .1 .within); second-place = omega arith; second-count = omega arith }))
+put-row-requires c κs =
+    let t = c .before .before .before .trim .ensures .1 in (
+      omega (arith, t .few, c .before .before .if1 .left),
+      subst (λ (r : Row). Fits r) (sym (c .one-run .ensures)) (record { first-place = omega (arith, t .within); first-count = omega (arith, t .within); second-place = omega arith; second-count = omega arith }),
+    )
 
 add-result : tie.Need-add-result
 add-result c = search needs
@@ -28,7 +34,14 @@ same-length : tie.Need-same-length
 same-length c = search needs
 
 returns-2 : tie.Need-returns-2
-returns-2 c = (group-some _ _ _ (c .before .before .before .before .before .before .trim .result) (c .before .before .before .before .before .before .trim .ensures .0) (c .before .before .before .before .before .before .before .before .before .args .tag) _ (c .before .before .before .before .before .before .before .before .before .args .at) (c .before .before .before .before .before .if1 .left) _ (c .before .before .before .one-run .ensures) _ (c .before .before .put-row .ensures), omega (arith, c .before .before .before .before .before .before .trim .ensures .1 .few, c .before .before .before .before .before .if1 .left))
+returns-2 c =
+    let a = c .before .before .before .before .before .before .before .before .before .args in
+    let t = c .before .before .before .before .before .before .trim in
+    let some = c .before .before .before .before .before .if1 .left in
+    record {
+      wrote = group-some _ _ _ (t .result) (t .ensures .0) (a .tag) _ (a .at) some _ (c .before .before .before .one-run .ensures) _ (c .before .before .put-row .ensures);
+      few = omega (arith, t .ensures .1 .few, some);
+    }
 
 pub put-group-spec : {M : Type 1} → statement M
 put-group-spec =

@@ -2,7 +2,6 @@
 use borrow.Author.Needs.{needs}
 use Prim.Native.Nat.{_-_}
 use native.Mathlib.Omega.{arith}
-use mathlib.Core.Path.{refl}
 use Rattle.attribute.proofs.groups.put_groups.Statement.{statement}
 use Rattle.attribute.proofs.groups.put_groups.Tie as tie
 
@@ -16,7 +15,9 @@ same-length : tie.Need-same-length
 same-length c = search needs
 
 returns : tie.Need-returns
-returns c = (λ text pairs. c .before .before .push-attr-groups .ensures .0 text pairs, (refl, omega (arith, c .before .before .push-attr-groups .ensures .1)))
+returns c = λ text pairs.
+    let g = c .before .before .push-attr-groups .ensures in
+    record { answer = rw (← g .wrote text pairs .count); buffer = g .wrote text pairs .buffer; few = omega (arith, g .few) }
 
 pub put-groups-spec : {M : Type 1} → statement M
 put-groups-spec = tie.close (tie.spec add-t10 push-attr-groups-requires same-length returns)

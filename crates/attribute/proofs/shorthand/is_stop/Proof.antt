@@ -17,16 +17,29 @@ length-of-requires : tie.Need-length-of-requires
 length-of-requires c κs = omega (arith, c .before .before .before .before .before .pre .0 .paired, c .before .before .before .before .before .pre .1)
 
 returns : tie.Need-returns
-returns c = stop-hash (tokenAt (lineOf (c .before .before .before .before .before .args .kinds .now) (c .before .before .before .before .before .args .text .now) (c .before .before .before .before .before .args .pairs .now)) (c .before .before .before .before .before .args .at .0)) (kind-of (lineOf (c .before .before .before .before .before .args .kinds .now) (c .before .before .before .before .before .args .text .now) (c .before .before .before .before .before .args .pairs .now)) (c .before .before .before .before .before .args .at .0) _ (c .match .keys1))
+returns c =
+    let a = c .before .before .before .before .before .args in
+    let line = lineOf (a .kinds .now) (a .text .now) (a .pairs .now) in
+    stop-hash (tokenAt line (a .at .0)) (kind-of line (a .at .0) _ (c .match .keys1))
 
 returns-2 : tie.Need-returns-2
-returns-2 c = stop-percent (tokenAt (lineOf (c .before .before .before .before .before .args .kinds .now) (c .before .before .before .before .before .args .text .now) (c .before .before .before .before .before .args .pairs .now)) (c .before .before .before .before .before .args .at .0)) (kind-of (lineOf (c .before .before .before .before .before .args .kinds .now) (c .before .before .before .before .before .args .text .now) (c .before .before .before .before .before .args .pairs .now)) (c .before .before .before .before .before .args .at .0) _ (c .match .keys2))
+returns-2 c =
+    let a = c .before .before .before .before .before .args in
+    let line = lineOf (a .kinds .now) (a .text .now) (a .pairs .now) in
+    stop-percent (tokenAt line (a .at .0)) (kind-of line (a .at .0) _ (c .match .keys2))
 
 returns-3 : tie.Need-returns-3
-returns-3 c = stop-dots (tokenAt (lineOf (c .before .before .before .before .before .before .args .kinds .now) (c .before .before .before .before .before .before .args .text .now) (c .before .before .before .before .before .before .args .pairs .now)) (c .before .before .before .before .before .before .args .at .0)) (kind-of (lineOf (c .before .before .before .before .before .before .args .kinds .now) (c .before .before .before .before .before .before .args .text .now) (c .before .before .before .before .before .before .args .pairs .now)) (c .before .before .before .before .before .before .args .at .0) _ (c .before .match .keys3)) _ (one-is _ _ _ (c .before .before .before .before .before .before .pre .0) _ (c .before .before .before .before .before .before .pre .1) ∙ ap (λ (n : ℕ). eqb n 1) (sym (c .length-of .ensures)))
+returns-3 c =
+    let a = c .before .before .before .before .before .before .args in
+    let p = c .before .before .before .before .before .before .pre in
+    let line = lineOf (a .kinds .now) (a .text .now) (a .pairs .now) in
+    stop-dots (tokenAt line (a .at .0)) (kind-of line (a .at .0) _ (c .before .match .keys3)) _ (one-is _ _ _ (p .0) _ (p .1) ∙ ap (λ (n : ℕ). eqb n 1) (sym (c .length-of .ensures)))
 
 returns-4 : tie.Need-returns-4
-returns-4 c = stop-not (tokenAt (lineOf (c .before .before .before .before .before .args .kinds .now) (c .before .before .before .before .before .args .text .now) (c .before .before .before .before .before .args .pairs .now)) (c .before .before .before .before .before .args .at .0)) (kind-not (lineOf (c .before .before .before .before .before .args .kinds .now) (c .before .before .before .before .before .args .text .now) (c .before .before .before .before .before .args .pairs .now)) (c .before .before .before .before .before .args .at .0) _ (c .match .rest .0 .0 .1)) (kind-not (lineOf (c .before .before .before .before .before .args .kinds .now) (c .before .before .before .before .before .args .text .now) (c .before .before .before .before .before .args .pairs .now)) (c .before .before .before .before .before .args .at .0) _ (c .match .rest .0 .1)) (kind-not (lineOf (c .before .before .before .before .before .args .kinds .now) (c .before .before .before .before .before .args .text .now) (c .before .before .before .before .before .args .pairs .now)) (c .before .before .before .before .before .args .at .0) _ (c .match .rest .1))
+returns-4 c =
+    let a = c .before .before .before .before .before .args in
+    let line = lineOf (a .kinds .now) (a .text .now) (a .pairs .now) in
+    stop-not (tokenAt line (a .at .0)) (kind-not line (a .at .0) _ (c .match .rest .0 .0 .1)) (kind-not line (a .at .0) _ (c .match .rest .0 .1)) (kind-not line (a .at .0) _ (c .match .rest .1))
 
 pub is-stop-spec : {M : Type 1} → statement M
 is-stop-spec =

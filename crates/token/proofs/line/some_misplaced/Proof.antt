@@ -24,10 +24,19 @@ length-of-requires : tie.Need-length-of-requires Inv-loop μ-loop
 length-of-requires c κs = omega (arith, c .before .before .before .before .pre)
 
 add-next : tie.Need-add-next Inv-loop μ-loop
-add-next c = omega (arith, c .before .before .before .before .before .shared-slice-known .given (2 * c .before .before .before .before .loop .i), c .before .before .before .before .before .shared-slice-known .given (2 * c .before .before .before .before .loop .i + 1), c .before .before .offset-of .ensures, c .before .length-of .ensures)
+add-next c =
+    let shared-slice-known = c .before .before .before .before .before .shared-slice-known in
+    let l = c .before .before .before .before .loop in
+    omega (arith, shared-slice-known .given (2 * l .i), shared-slice-known .given (2 * l .i + 1), c .before .before .offset-of .ensures, c .before .length-of .ensures)
 
 returns : tie.Need-returns Inv-loop μ-loop
-returns c = passed-before (c .before .before .before .before .before .before .before .before .args .pairs .now) (c .before .before .before .before .before .before .loop .i) (omega (arith, c .before .before .before .before .before .before .before .before .pre)) (c .before .before .before .before .before .before .before .before .args .size) (c .before .before .before .before .before .before .loop .end) (c .before .before .before .before .offset-of .result .0) (c .before .before .before .length-of .result) (c .before .before .before .before .offset-of .ensures) (c .before .before .before .length-of .ensures) (c .if1 .taken) ∙ c .before .before .before .before .before .before .loop .inv .1
+returns c =
+    let a = c .before .before .before .before .before .before .before .before .args in
+    let p = c .before .before .before .before .before .before .before .before .pre in
+    let l = c .before .before .before .before .before .before .loop in
+    let offset-of-call = c .before .before .before .before .offset-of in
+    let length-of-call = c .before .before .before .length-of in
+    passed-before (a .pairs .now) (l .i) (omega (arith, p)) (a .size) (l .end) (offset-of-call .result .0) (length-of-call .result) (offset-of-call .ensures) (length-of-call .ensures) (c .if1 .taken) ∙ l .inv .1
 
 add-i : tie.Need-add-i Inv-loop μ-loop
 add-i c = omega arith
@@ -36,10 +45,19 @@ loop-less : tie.Need-loop-less Inv-loop μ-loop
 loop-less c = omega arith
 
 loop-again : tie.Need-loop-again Inv-loop μ-loop
-loop-again c = (omega arith, passed-next (c .before .before .before .before .before .before .before .before .args .pairs .now) (c .before .before .before .before .before .before .loop .i) (omega (arith, c .before .before .before .before .before .before .before .before .pre)) (c .before .before .before .before .before .before .before .before .args .size) (c .before .before .before .before .before .before .loop .end) (c .before .before .before .before .offset-of .result .0) (c .before .before .before .length-of .result) (c .before .before .before .before .offset-of .ensures) (c .before .before .before .length-of .ensures) (c .if1 .left) ∙ c .before .before .before .before .before .before .loop .inv .1)
+loop-again c =
+    let a = c .before .before .before .before .before .before .before .before .args in
+    let p = c .before .before .before .before .before .before .before .before .pre in
+    let l = c .before .before .before .before .before .before .loop in
+    let offset-of-call = c .before .before .before .before .offset-of in
+    let length-of-call = c .before .before .before .length-of in
+    (omega arith, passed-next (a .pairs .now) (l .i) (omega (arith, p)) (a .size) (l .end) (offset-of-call .result .0) (length-of-call .result) (offset-of-call .ensures) (length-of-call .ensures) (c .if1 .left) ∙ l .inv .1)
 
 returns-2 : tie.Need-returns-2 Inv-loop μ-loop
-returns-2 c = passed-end (c .before .before .before .args .pairs .now) (c .before .loop .i) (c .before .before .before .args .size) (c .before .loop .end) (omega (arith, c .before .before .before .pre)) ∙ c .before .loop .inv .1
+returns-2 c =
+    let a = c .before .before .before .args in
+    let l = c .before .loop in
+    passed-end (a .pairs .now) (l .i) (a .size) (l .end) (omega (arith, c .before .before .before .pre)) ∙ l .inv .1
 
 pub some-misplaced-spec : {M : Type 1} → statement M
 some-misplaced-spec =

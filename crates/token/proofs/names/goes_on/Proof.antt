@@ -37,7 +37,11 @@ starts-with-requires : tie.Need-starts-with-requires
 starts-with-requires c κs = search needs
 
 returns : tie.Need-returns
-returns c = parts-as-taken (c .before .before .before .before .before .before .before .before .args .text .now) (c .before .before .before .before .before .before .before .before .args .name .now) _ _ (c .before .before .before .before .offset-of .result .0) (c .before .before .before .before .offset-of .result .0 + c .before .before .before .length-of .result) (c .before .before .before .before .before .before .before .before .args .at) _ (c .before .before .before .before .offset-of .ensures) (ap (λ (n : ℕ). c .before .before .before .before .offset-of .result .0 + n) (c .before .before .before .length-of .ensures)) (c .starts-with .ensures)
+returns c =
+    let a = c .before .before .before .before .before .before .before .before .args in
+    let offset-of-call = c .before .before .before .before .offset-of in
+    let length-of-call = c .before .before .before .length-of in
+    parts-as-taken (a .text .now) (a .name .now) _ _ (offset-of-call .result .0) (offset-of-call .result .0 + length-of-call .result) (a .at) _ (offset-of-call .ensures) (ap (λ (n : ℕ). offset-of-call .result .0 + n) (length-of-call .ensures)) (c .starts-with .ensures)
 
 pub goes-on-spec : {M : Type 1} → statement M
 goes-on-spec =

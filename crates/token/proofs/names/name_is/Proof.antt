@@ -37,20 +37,31 @@ loop-less-2 : tie.Need-loop-less-2 Inv-loop μ-loop
 loop-less-2 c = omega arith
 
 loop-again-2 : tie.Need-loop-again-2 Inv-loop μ-loop
-loop-again-2 c = naming-space _ _ _ _ _ _ (c .before .before .before .loop .i) (c .before .before .before .loop .at) (c .before .before .loop-test .taken) (c .before .before .before .loop .inv) (λ e. omega (arith, c .match .keys2, e)) (c .match .keys2)
+loop-again-2 c =
+    let l = c .before .before .before .loop in
+    naming-space _ _ _ _ _ _ (l .i) (l .at) (c .before .before .loop-test .taken) (l .inv) (λ e. omega (arith, c .match .keys2, e)) (c .match .keys2)
 
 goes-on-requires : tie.Need-goes-on-requires Inv-loop μ-loop
-goes-on-requires c κs = (omega (arith, c .before .before .before .before .before .before .before .before .pre .0 .paired), c .before .before .before .before .before .before .before .before .pre .0 .within (c .before .before .before .loop .i) (omega arith), c .before .before .before .loop .inv .room)
+goes-on-requires c κs =
+    let p = c .before .before .before .before .before .before .before .before .pre in
+    let l = c .before .before .before .loop in
+    (omega (arith, p .0 .paired), p .0 .within (l .i) (omega arith), l .inv .room)
 
 returns : tie.Need-returns Inv-loop μ-loop
 unfolding tokenAt
-returns c = naming-differs _ _ _ _ _ _ (c .before .before .before .before .before .loop .i) (c .before .before .before .before .before .loop .at) (c .before .before .before .before .loop-test .taken) (c .before .before .before .before .before .loop .inv) (c .before .before .match .rest .0 .1) (c .before .before .match .rest .1) (sym (c .before .goes-on .ensures) ∙ not-true _ (c .if1 .taken))
+returns c =
+    let l = c .before .before .before .before .before .loop in
+    let match = c .before .before .match in
+    naming-differs _ _ _ _ _ _ (l .i) (l .at) (c .before .before .before .before .loop-test .taken) (l .inv) (match .rest .0 .1) (match .rest .1) (sym (c .before .goes-on .ensures) ∙ not-true _ (c .if1 .taken))
 
 length-of-requires : tie.Need-length-of-requires Inv-loop μ-loop
 length-of-requires c κs = omega (arith, c .before .before .before .before .before .before .before .before .before .before .pre .0 .paired)
 
 add-at : tie.Need-add-at Inv-loop μ-loop
-add-at c = omega (arith, c .before .before .before .before .before .before .before .before .before .before .before .pre .0 .within (c .before .before .before .before .before .before .loop .i) (omega arith), c .before .before .before .before .before .before .before .before .before .before .before .pre .0 .short, c .length-of .ensures, c .before .before .before .before .before .before .loop .inv .room)
+add-at c =
+    let p = c .before .before .before .before .before .before .before .before .before .before .before .pre in
+    let l = c .before .before .before .before .before .before .loop in
+    omega (arith, p .0 .within (l .i) (omega arith), p .0 .short, c .length-of .ensures, l .inv .room)
 
 add-i-3 : tie.Need-add-i-3 Inv-loop μ-loop
 add-i-3 c = omega arith
@@ -60,7 +71,11 @@ loop-less-3 c = omega arith
 
 loop-again-3 : tie.Need-loop-again-3 Inv-loop μ-loop
 unfolding tokenAt
-loop-again-3 c = naming-on _ _ _ _ _ _ (c .before .before .before .before .before .before .loop .i) (c .before .before .before .before .before .before .loop .at) (c .before .before .before .before .before .loop-test .taken) (c .before .before .before .before .before .before .loop .inv) (c .before .before .before .match .rest .0 .1) (c .before .before .before .match .rest .1) _ (lexeme-length _ _ _ (c .before .before .before .before .before .before .before .before .before .before .before .pre .0) _ (omega arith) ∙ sym (c .length-of .ensures)) (sym (c .before .before .goes-on .ensures) ∙ not-false _ (c .before .if1 .left))
+loop-again-3 c =
+    let p = c .before .before .before .before .before .before .before .before .before .before .before .pre in
+    let l = c .before .before .before .before .before .before .loop in
+    let match = c .before .before .before .match in
+    naming-on _ _ _ _ _ _ (l .i) (l .at) (c .before .before .before .before .before .loop-test .taken) (l .inv) (match .rest .0 .1) (match .rest .1) _ (lexeme-length _ _ _ (p .0) _ (omega arith) ∙ sym (c .length-of .ensures)) (sym (c .before .before .goes-on .ensures) ∙ not-false _ (c .before .if1 .left))
 
 returns-2 : tie.Need-returns-2 Inv-loop μ-loop
 returns-2 c = naming-end _ _ _ _ _ _ (c .before .loop .i) (c .before .loop .at) (c .loop-test .left) (c .before .loop .inv)

@@ -14,7 +14,10 @@ quotes-round-requires : tie.Need-quotes-round-requires
 quotes-round-requires c κs = (omega (arith, c .run-of .ensures .1 .within), c .run-of .ensures .1 .ends)
 
 returns : tie.Need-returns
-returns c = (plain-run _ _ _ _ (c .before .before .run-of .ensures .1) (λ text pairs. sym (c .before .quotes-round .ensures text pairs) ∙ not-true _ (c .if1 .taken)) (c .before .before .run-of .ensures .0), plain-part _ _ _ _ (c .before .before .run-of .ensures .1) (λ text pairs. sym (c .before .quotes-round .ensures text pairs) ∙ not-true _ (c .if1 .taken)))
+returns c =
+    let run-of-call = c .before .before .run-of in
+    let quotes-round-call = c .before .quotes-round in
+    (plain-run _ _ _ _ (run-of-call .ensures .1) (λ text pairs. sym (quotes-round-call .ensures text pairs) ∙ not-true _ (c .if1 .taken)) (run-of-call .ensures .0), plain-part _ _ _ _ (run-of-call .ensures .1) (λ text pairs. sym (quotes-round-call .ensures text pairs) ∙ not-true _ (c .if1 .taken)))
 
 add-t9 : tie.Need-add-t9
 add-t9 c = search needs
@@ -29,7 +32,11 @@ run-of-requires-2 : tie.Need-run-of-requires-2
 run-of-requires-2 c κs = let m = quotes-room _ _ _ _ (c .before .before .before .before .before .run-of .ensures .1) (λ text pairs. sym (c .before .before .before .before .quotes-round .ensures text pairs) ∙ not-false _ (c .before .before .before .if1 .left)) in (omega arith, omega (arith, c .before .before .before .before .before .run-of .ensures .1 .within))
 
 returns-2 : tie.Need-returns-2
-returns-2 c = (unquoted-run _ _ _ _ (c .before .before .before .before .before .before .run-of .ensures .1) (λ text pairs. sym (c .before .before .before .before .before .quotes-round .ensures text pairs) ∙ not-false _ (c .before .before .before .before .if1 .left)) _ (c .run-of2 .ensures .0), unquoted-part _ _ _ _ (c .before .before .before .before .before .before .run-of .ensures .1) (λ text pairs. sym (c .before .before .before .before .before .quotes-round .ensures text pairs) ∙ not-false _ (c .before .before .before .before .if1 .left)) _ (c .run-of2 .ensures .1))
+returns-2 c =
+    let run-of-call = c .before .before .before .before .before .before .run-of in
+    let quotes-round-call = c .before .before .before .before .before .quotes-round in
+    let if1 = c .before .before .before .before .if1 in
+    (unquoted-run _ _ _ _ (run-of-call .ensures .1) (λ text pairs. sym (quotes-round-call .ensures text pairs) ∙ not-false _ (if1 .left)) _ (c .run-of2 .ensures .0), unquoted-part _ _ _ _ (run-of-call .ensures .1) (λ text pairs. sym (quotes-round-call .ensures text pairs) ∙ not-false _ (if1 .left)) _ (c .run-of2 .ensures .1))
 
 pub unquote-spec : {M : Type 1} → statement M
 unquote-spec =

@@ -7,14 +7,16 @@ use Rattle.attribute.proofs.GroupRows.{wrote-same}
 use Rattle.attribute.specs.Attribute.{oneRow}
 use Rattle.row.specs.Row.{Fits}
 use Rattle.row.specs.declared.Row.{Row}
-use Rattle.attribute.proofs.single.put_diagnostic.Statement.{statement}
-use Rattle.attribute.proofs.single.put_diagnostic.Tie as tie
+use Rattle.attribute.proofs.one_row.put_diagnostic.Statement.{statement}
+use Rattle.attribute.proofs.one_row.put_diagnostic.Tie as tie
 
 one-run-requires : tie.Need-one-run-requires
 one-run-requires c κs = search needs
 
 put-one-requires : tie.Need-put-one-requires
-put-one-requires c κs = (c .before .before .before .pre .0, subst (λ (r : Row). Fits r) (sym (c .one-run .ensures)) (record { first-place = c .before .before .before .pre .1; first-count = c .before .before .before .pre .2; second-place = omega arith; second-count = omega arith }))
+put-one-requires c κs =
+    let p = c .before .before .before .pre in
+    (p .0, subst (λ (r : Row). Fits r) (sym (c .one-run .ensures)) (record { first-place = p .1; first-count = p .2; second-place = omega arith; second-count = omega arith }))
 
 same-length : tie.Need-same-length
 same-length c = search needs

@@ -10,7 +10,7 @@ use Rattle.token.specs.Kind.{closeBracket, kindAt}
 use Rattle.token.specs.Line.{Line, check, refusal}
 use Rattle.token.specs.Run.{kept, unquote, runOf}
 use Rattle.row.specs.declared.Row.{Row}
-use Rattle.row.specs.Row.{positional, withRows, roomFor}
+use Rattle.row.specs.Row.{positional, withRows, Wrote, roomFor}
 use Rattle.delimiters.specs.Delimit.{Stretch, parted, attributes}
 use Rattle.closing.specs.declared.Closing.{Closing}
 use Rattle.closing.specs.declared.Closing.the-variants.{At, Nowhere}
@@ -73,6 +73,10 @@ rowsFrom l block has (s ∷ ss) =
 abbrev pub partedRows : Line → (block : Bool) → (commas : List ℕ) → (end : ℕ) → List Row
 partedRows l block commas end = rowsFrom l block false (parted 0 commas end) .rows
 
+-- what a call that writes them to the front of the buffer leaves, and how many it answers
+abbrev pub WroteParted : Line → (block : Bool) → (commas : List ℕ) → (end : ℕ) → (before : List ℕ) → (r : ℕ) → (after : List ℕ) → Type 0
+WroteParted l block commas end before r after = Wrote before 0 (partedRows l block commas end) after r
+
 -- the rows of the attributes of a line whose closing bracket stands at `end`; `block` says that the entry is the block entry
 abbrev pub listRows : Line → (block : Bool) → (end : ℕ) → List Row
 listRows l block end = rowsFrom l block false (attributes (l .kinds) end) .rows
@@ -110,6 +114,12 @@ readBy Link l = linkTo l (linkMacro (l .kinds) (l .pairs))
 -- "First token CloseBracket, links too: no rows, 1 consumed, and no 8"
 abbrev pub unlessClosed : (kinds : List ℕ) → Reading → Reading
 unlessClosed kinds r = cond (eqb (kindAt kinds 0) closeBracket) (gives [] 1) r
+
+abbrev pub listOrNone : Line → (full block : Bool) → Reading
+listOrNone l full block = unlessClosed (l .kinds) (listOf l full block)
+
+abbrev pub linkOrNone : Line → Reading
+linkOrNone l = unlessClosed (l .kinds) (readBy Link l)
 
 -- 1 to 6 of a line of at most `most` tokens, then 7 of a row buffer of `room` numbers; 0 where none applies
 unfoldable pub lentRefusal : (most : ℕ) → Line → (room : ℕ) → ℕ

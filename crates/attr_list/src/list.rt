@@ -15,10 +15,10 @@ ghost use lib.Dec.{eqb};
 ghost use lib.ListN.{length, take};
 ghost use Rattle.token.specs.Kind.{word, kindAt};
 ghost use Rattle.token.specs.Lent.{line, Lent};
-ghost use Rattle.row.specs.Row.{width, Wrote};
+ghost use Rattle.row.specs.Row.{width};
 ghost use Rattle.attribute.specs.Written.{Attributed};
 ghost use Rattle.delimiters.specs.Divide.{Ascending};
-ghost use Rattle.attr_list.specs.Reading.{partedRows};
+ghost use Rattle.attr_list.specs.Reading.{WroteParted};
 
 fn wide(x: u16) -> usize
     ensures { λ r. ⌜ r ≡ x ⌝ }
@@ -86,7 +86,7 @@ pub fn list_rows<'a, 'b>(
     requires { ⌜ Lent (now kinds) (now text) (now pairs) ⌝ }
     requires { ⌜ (n ≤ length (now commas)) × (end .0 ≤ length (now kinds)) × (width * (end .0 + 1) ≤ length (now rows)) ⌝ }
     requires { ⌜ Ascending 0 (take n (now commas)) (end .0) ⌝ }
-    ensures { λ r. ⌜ Wrote (now (rows .entry)) 0 (partedRows (line (kinds .entry) (text .entry) (pairs .entry)) block (take n (now (commas .entry))) (end .0)) (now (rows .exit)) r ⌝ }
+    ensures { λ r. ⌜ WroteParted (line (kinds .entry) (text .entry) (pairs .entry)) block (take n (now (commas .entry))) (end .0) (now (rows .entry)) r (now (rows .exit)) ⌝ }
 {
     let mut from: usize = 0;
     let mut at: usize = 0;

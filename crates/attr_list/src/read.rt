@@ -25,8 +25,7 @@ ghost use lib.ListN.{length};
 ghost use Rattle.token.specs.Kind.{closeBracket, kindAt};
 ghost use Rattle.token.specs.Lent.{line, Lent};
 ghost use Rattle.row.specs.Row.{width};
-ghost use Rattle.attr_list.specs.Entry.{Link};
-ghost use Rattle.attr_list.specs.Reading.{gives, answerOf, Gives, listOf, textTo, readBy, unlessClosed, lentRefusal};
+ghost use Rattle.attr_list.specs.Reading.{gives, answerOf, Gives, listOf, textTo, listOrNone, linkOrNone, lentRefusal};
 
 // Lines of so many tokens have their commas in a small array, which is cleared sooner than the large one.
 const SHORT: usize = 64;
@@ -101,7 +100,7 @@ pub fn read_list<'a, 'b>(
 ) -> Answer
     requires { ⌜ Lent (now kinds) (now text) (now pairs) ⌝ }
     requires { ⌜ width * length (now kinds) ≤ length (now rows) ⌝ }
-    ensures { λ r. ⌜ Gives (now (rows .entry)) (unlessClosed (now (kinds .entry)) (listOf (line (kinds .entry) (text .entry) (pairs .entry)) full block)) r (now (rows .exit)) ⌝ }
+    ensures { λ r. ⌜ Gives (now (rows .entry)) (listOrNone (line (kinds .entry) (text .entry) (pairs .entry)) full block) r (now (rows .exit)) ⌝ }
 {
     if kinds[0] == CLOSE_BRACKET {
         return no_rows();
@@ -150,7 +149,7 @@ pub fn read_link<'a, 'b>(
 ) -> Answer
     requires { ⌜ Lent (now kinds) (now text) (now pairs) ⌝ }
     requires { ⌜ width * length (now kinds) ≤ length (now rows) ⌝ }
-    ensures { λ r. ⌜ Gives (now (rows .entry)) (unlessClosed (now (kinds .entry)) (readBy Link (line (kinds .entry) (text .entry) (pairs .entry)))) r (now (rows .exit)) ⌝ }
+    ensures { λ r. ⌜ Gives (now (rows .entry)) (linkOrNone (line (kinds .entry) (text .entry) (pairs .entry))) r (now (rows .exit)) ⌝ }
 {
     if kinds[0] == CLOSE_BRACKET {
         return no_rows();

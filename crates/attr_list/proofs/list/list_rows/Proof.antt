@@ -59,7 +59,9 @@ loop-again c =
     let l = c .before .before .before .before .before .before .before .loop in
     let wide = c .before .before .before .before .wide in
     let attr-rows = c .before .before .attr-rows in
-    next (lineOf (a .kinds .now) (a .text .now) (a .pairs .now)) (a .commas .now) (a .n) (a .end .0) (a .block) (a .rows .now) (c .before .before .before .before .before .before .before .before .before .before .before .before .before .pre .1 .0 .0) (l .rows) (l .from) (l .at) (l .id) (l .j) (l .inv) (wide .result) (c .before .before .before .before .before .before .loop-test .taken) (wide .ensures) (attr-rows .result) _ (attr-rows .ensures)
+    let p = c .before .before .before .before .before .before .before .before .before .before .before .before .before .pre in
+    next (lineOf (a .kinds .now) (a .text .now) (a .pairs .now)) (a .commas .now) (a .n) (a .end .0) (a .block) (a .rows .now) (p .1 .0 .0)
+    (l .rows) (l .from) (l .at) (l .id) (l .j) (l .inv) (wide .result) (c .before .before .before .before .before .before .loop-test .taken) (wide .ensures) (attr-rows .result) _ (attr-rows .ensures)
 
 attr-rows-requires-2 : tie.Need-attr-rows-requires-2 Inv-loop μ-loop
 attr-rows-requires-2 c κs =

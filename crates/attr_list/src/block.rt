@@ -6,7 +6,7 @@ ghost use mathlib.Core.Path.{_≡_};
 ghost use Rattle.attr_list.specs.Block.{isBlockAttrList};
 
 // Whether the tokens are a block attribute list.
-pub fn bracketed(kinds: &[u8]) -> bool
+pub(crate) fn bracketed(kinds: &[u8]) -> bool
     ensures { λ r. ⌜ r ≡ isBlockAttrList (now (kinds .entry)) ⌝ }
 {
     let tokens = kinds.len();

@@ -73,7 +73,7 @@ fn attr_rows<'a, 'b>(
 
 // Writes the rows of the attributes that the first `n` of `commas` part, first to last, and answers how many there are. The last attribute goes on to
 // the closing bracket at `end`. `block` says that the entry is the block entry.
-pub fn list_rows<'a, 'b>(
+pub(crate) fn list_rows<'a, 'b>(
     kinds: &'a [u8],
     text: &'a [u8],
     pairs: &'a [u32],

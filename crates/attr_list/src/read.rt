@@ -31,7 +31,7 @@ ghost use Rattle.attr_list.specs.Reading.{gives, answerOf, Gives, listOf
 const SHORT: usize = 64;
 
 // The number with which 1 to 7 refuse a line of at most `most` tokens and a row buffer of `room` numbers, 0 where none does.
-pub fn lent_refusal<'a>(
+pub(crate) fn lent_refusal<'a>(
     kinds: &'a [u8],
     text: &'a [u8],
     pairs: &'a [u32],
@@ -90,7 +90,7 @@ fn read_list_in<'a, 'b, 'c>(
 }
 
 // Reads a list of a line that 1 to 7 do not refuse. `full` says that the list is the rest of a full line, `block` that the entry is the block entry.
-pub fn read_list<'a, 'b>(
+pub(crate) fn read_list<'a, 'b>(
     kinds: &'a [u8],
     text: &'a [u8],
     pairs: &'a [u32],
@@ -141,7 +141,7 @@ fn read_text<'a, 'b>(
 }
 
 // Reads what a link's brackets hold, of a line that 1 to 7 do not refuse.
-pub fn read_link<'a, 'b>(
+pub(crate) fn read_link<'a, 'b>(
     kinds: &'a [u8],
     text: &'a [u8],
     pairs: &'a [u32],

@@ -8,7 +8,7 @@ ghost use lib.ListN.{length};
 ghost use Rattle.closing.specs.Closing.{lastBracket, nextBracket};
 
 // The closing bracket of the block and block macro entries: the last token, if it is a CloseBracket.
-pub fn last_bracket(kinds: &[u8]) -> Closing
+pub(crate) fn last_bracket(kinds: &[u8]) -> Closing
     ensures { λ r. ⌜ r ≡ lastBracket (now (kinds .entry)) ⌝ }
 {
     let tokens = kinds.len();
@@ -23,7 +23,7 @@ pub fn last_bracket(kinds: &[u8]) -> Closing
 
 // The closing bracket of the inline entry, whose last attribute begins at `from`: the token there, if it is a CloseBracket, else the next
 // CloseBracket whose preceding token is not Backslash.
-pub fn next_bracket(kinds: &[u8], from: TokenPlace) -> Closing
+pub(crate) fn next_bracket(kinds: &[u8], from: TokenPlace) -> Closing
     requires { ⌜ from .0 < length (now kinds) ⌝ }
     ensures { λ r. ⌜ r ≡ nextBracket (now (kinds .entry)) (from .0) ⌝ }
 {

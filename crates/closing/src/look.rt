@@ -28,7 +28,7 @@ fn on(quoted: bool, nested: bool, last: u8) -> Turn
 }
 
 // What a token of kind k decides; `one` says that its length is 1.
-pub fn turn_at(seen: Seen, k: u8, one: bool) -> Turn
+pub(crate) fn turn_at(seen: Seen, k: u8, one: bool) -> Turn
     ensures turn { λ r. ⌜ r ≡ turn seen k one ⌝ }
 {
     let quoted = seen.quoted;

@@ -100,7 +100,7 @@ fn read_chunks(fd: i32, chunk: &mut [u8], buffer: &mut [u8]) {
     }
 }
 
-pub fn all_lines(fd: i32) {
+pub(crate) fn all_lines(fd: i32) {
     let mut chunk = io::large_buffer();
     let mut buffer = [0u8; ROOM];
     read_chunks(fd, &mut chunk, &mut buffer);

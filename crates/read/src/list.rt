@@ -122,7 +122,7 @@ fn answered<'a, 'b>(
 }
 
 // Prints what the entry says of a line; `shown` is its text as it is printed.
-pub fn tell_list<'a>(
+pub(crate) fn tell_list<'a>(
     entry: usize,
     kinds: &'a [u8],
     text: &'a [u8],

@@ -124,7 +124,7 @@ fn token_line(file: &[u8], line: usize, entry: usize, from: usize, end: usize, t
 }
 
 // One line of the file, its first `to` bytes: a comment is printed as it stands, a line of blanks is passed over.
-pub fn one_line(file: &[u8], line: usize, to: usize) {
+pub(crate) fn one_line(file: &[u8], line: usize, to: usize) {
     let from = past_blanks(file, to);
     if from >= to {
         return;

@@ -3,7 +3,7 @@ ghost use Prim.Native.Nat.{_≤_};
 ghost use lib.ListN.{length};
 
 // The byte at a place, 0 past the end.
-pub fn byte(text: &[u8], at: usize) -> u8 {
+pub(crate) fn byte(text: &[u8], at: usize) -> u8 {
     if at < text.len() {
         return text[at];
     }
@@ -15,7 +15,7 @@ fn wide(n: u32) -> usize {
 }
 
 // The number at a place, 0 past the end.
-pub fn number(numbers: &[u32], at: usize) -> usize {
+pub(crate) fn number(numbers: &[u32], at: usize) -> usize {
     if at < numbers.len() {
         return wide(numbers[at]);
     }
@@ -23,7 +23,7 @@ pub fn number(numbers: &[u32], at: usize) -> usize {
 }
 
 // Puts a byte at a place, if there is such a place.
-pub fn put(out: &mut [u8], at: usize, b: u8) {
+pub(crate) fn put(out: &mut [u8], at: usize, b: u8) {
     if at < out.len() {
         out[at] = b;
     }
@@ -37,7 +37,7 @@ fn narrow(n: usize) -> u32 {
 }
 
 // Puts the pair of token `at`, if there is room for it.
-pub fn put_pair(pairs: &mut [u32], at: usize, offset: usize, length: usize) {
+pub(crate) fn put_pair(pairs: &mut [u32], at: usize, offset: usize, length: usize) {
     if at > 4096 {
         return;
     }
@@ -48,7 +48,7 @@ pub fn put_pair(pairs: &mut [u32], at: usize, offset: usize, length: usize) {
 }
 
 // One more, but no more than `most`.
-pub fn up(n: usize, most: usize) -> usize
+pub(crate) fn up(n: usize, most: usize) -> usize
     ensures { λ r. ⌜ r ≤ most ⌝ }
 {
     if n < most {
@@ -58,7 +58,7 @@ pub fn up(n: usize, most: usize) -> usize
 }
 
 // The place `n` further on, but not past `most`.
-pub fn onward(at: usize, n: usize, most: usize) -> usize {
+pub(crate) fn onward(at: usize, n: usize, most: usize) -> usize {
     if at >= most {
         return most;
     }
@@ -69,7 +69,7 @@ pub fn onward(at: usize, n: usize, most: usize) -> usize {
 }
 
 // What is left of a when b is taken from it.
-pub fn less(a: usize, b: usize) -> usize {
+pub(crate) fn less(a: usize, b: usize) -> usize {
     if b < a {
         return a - b;
     }
@@ -77,7 +77,7 @@ pub fn less(a: usize, b: usize) -> usize {
 }
 
 // The place of the first byte `b` in text from `from` up to `to`, or `to`, which is cut to the end of the text.
-pub fn find(text: &[u8], from: usize, to: usize, b: u8) -> usize
+pub(crate) fn find(text: &[u8], from: usize, to: usize, b: u8) -> usize
     ensures { λ r. ⌜ r ≤ length (now (text .entry)) ⌝ }
 {
     let mut at = from;
@@ -97,7 +97,7 @@ pub fn find(text: &[u8], from: usize, to: usize, b: u8) -> usize
 }
 
 // The place of the first byte of a text that is no blank, or `to`.
-pub fn past_blanks(text: &[u8], to: usize) -> usize {
+pub(crate) fn past_blanks(text: &[u8], to: usize) -> usize {
     let mut at: usize = 0;
     while at < to {
         if byte(text, at) != b' ' {
@@ -109,7 +109,7 @@ pub fn past_blanks(text: &[u8], to: usize) -> usize {
 }
 
 // Whether one part of a text is the same bytes as one part of another.
-pub fn same<'a>(
+pub(crate) fn same<'a>(
     a: &'a [u8],
     a_from: usize,
     a_to: usize,
@@ -136,7 +136,7 @@ pub fn same<'a>(
 }
 
 // Which word of a table, words ended by a blank, a part of a text is, counted from 0; 99 for none.
-pub fn word_number<'a>(table: &'a [u8], text: &'a [u8], from: usize, to: usize) -> usize
+pub(crate) fn word_number<'a>(table: &'a [u8], text: &'a [u8], from: usize, to: usize) -> usize
     ensures { λ r. ⌜ r ≤ 99 ⌝ }
 {
     let mut at: usize = 0;
@@ -156,7 +156,7 @@ pub fn word_number<'a>(table: &'a [u8], text: &'a [u8], from: usize, to: usize) 
 }
 
 // Writes a part of a text, cut to the text.
-pub fn write_part(text: &[u8], from: usize, to: usize) {
+pub(crate) fn write_part(text: &[u8], from: usize, to: usize) {
     if to > text.len() {
         return;
     }
@@ -167,7 +167,7 @@ pub fn write_part(text: &[u8], from: usize, to: usize) {
 }
 
 // Writes word `n` of a table, words ended by a semicolon, counted from 0; nothing past the last.
-pub fn write_word(table: &[u8], n: usize) {
+pub(crate) fn write_word(table: &[u8], n: usize) {
     let mut at: usize = 0;
     let mut number: usize = 0;
     while at < table.len() {

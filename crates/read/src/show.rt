@@ -8,11 +8,11 @@ use super::scan::up;
 use super::scan::write_part;
 use super::scan::write_word;
 
-pub fn words(text: &[u8]) {
+pub(crate) fn words(text: &[u8]) {
     io::write_all(1, text);
 }
 
-pub fn count(n: usize) {
+pub(crate) fn count(n: usize) {
     io::print_decimal(1, n as u64);
 }
 
@@ -28,7 +28,7 @@ fn soft(b: u8) -> u8 {
 }
 
 // Copies a text as it is printed.
-pub fn soften(text: &[u8], shown: &mut [u8]) {
+pub(crate) fn soften(text: &[u8], shown: &mut [u8]) {
     let mut i: usize = 0;
     while i < text.len() {
         put(shown, i, soft(text[i]));
@@ -37,7 +37,7 @@ pub fn soften(text: &[u8], shown: &mut [u8]) {
 }
 
 // Writes the first so many bytes of a text.
-pub fn write_front(text: &[u8], n: usize) {
+pub(crate) fn write_front(text: &[u8], n: usize) {
     write_part(text, 0, n);
 }
 
@@ -47,7 +47,7 @@ fn soft_byte(b: u8) {
 }
 
 // Writes a part of a text with its control bytes as question marks.
-pub fn soft_part(text: &[u8], from: usize, to: usize) {
+pub(crate) fn soft_part(text: &[u8], from: usize, to: usize) {
     let mut i = from;
     while i < to {
         soft_byte(byte(text, i));
@@ -56,7 +56,7 @@ pub fn soft_part(text: &[u8], from: usize, to: usize) {
 }
 
 // Puts a mark at each byte from `from` up to `to`.
-pub fn mark(marks: &mut [u8], from: usize, to: usize, m: u8) {
+pub(crate) fn mark(marks: &mut [u8], from: usize, to: usize, m: u8) {
     let mut i = from;
     while i < to {
         put(marks, i, m);
@@ -120,7 +120,7 @@ fn sign(marks: &[u8], at: usize, next: usize) -> u8 {
 }
 
 // Draws the signs under a text up to byte `to`, one for each character, to the front of `drawn`, and answers how many.
-pub fn draw<'a>(text: &'a [u8], marks: &'a [u8], to: usize, drawn: &mut [u8]) -> usize {
+pub(crate) fn draw<'a>(text: &'a [u8], marks: &'a [u8], to: usize, drawn: &mut [u8]) -> usize {
     let mut at: usize = 0;
     let mut columns: usize = 0;
     while at < to {
@@ -136,7 +136,7 @@ pub fn draw<'a>(text: &'a [u8], marks: &'a [u8], to: usize, drawn: &mut [u8]) ->
 }
 
 // The byte at which the token at a place starts.
-pub fn offset(pairs: &[u32], place: usize) -> usize {
+pub(crate) fn offset(pairs: &[u32], place: usize) -> usize {
     if place > 4096 {
         return 0;
     }
@@ -144,7 +144,7 @@ pub fn offset(pairs: &[u32], place: usize) -> usize {
 }
 
 // The byte at which the token at a place ends.
-pub fn past(pairs: &[u32], place: usize) -> usize {
+pub(crate) fn past(pairs: &[u32], place: usize) -> usize {
     if place > 4096 {
         return 0;
     }
@@ -156,7 +156,7 @@ pub fn past(pairs: &[u32], place: usize) -> usize {
 }
 
 // Writes what a run says: its tokens' texts, AttrRef tokens skipped.
-pub fn run<'a>(kinds: &'a [u8], shown: &'a [u8], pairs: &'a [u32], place: usize, n: usize) {
+pub(crate) fn run<'a>(kinds: &'a [u8], shown: &'a [u8], pairs: &'a [u32], place: usize, n: usize) {
     words(b"`");
     let mut i: usize = 0;
     while i < n {
@@ -224,7 +224,13 @@ fn one_row<'a>(kinds: &'a [u8], shown: &'a [u8], pairs: &'a [u32], rows: &'a [u3
 }
 
 // Writes the first so many rows.
-pub fn all_rows<'a>(kinds: &'a [u8], shown: &'a [u8], pairs: &'a [u32], rows: &'a [u32], n: usize) {
+pub(crate) fn all_rows<'a>(
+    kinds: &'a [u8],
+    shown: &'a [u8],
+    pairs: &'a [u32],
+    rows: &'a [u32],
+    n: usize,
+) {
     let mut i: usize = 0;
     let mut at: usize = 0;
     while i < n {
@@ -235,7 +241,7 @@ pub fn all_rows<'a>(kinds: &'a [u8], shown: &'a [u8], pairs: &'a [u32], rows: &'
 }
 
 // Writes a refusal: its number and its meaning.
-pub fn refusal(n: usize) {
+pub(crate) fn refusal(n: usize) {
     words(b"  refused, ");
     count(n);
     words(b": ");

@@ -213,7 +213,7 @@ fn put_token(
 }
 
 // Reads the tokens of a line of the file, written from `from` to `to` with blanks between them.
-pub fn fill(
+pub(crate) fn fill(
     file: &[u8],
     from: usize,
     to: usize,

@@ -33,7 +33,7 @@ fn digit(b: u8) -> u64
 }
 
 // The number that starts at `start`, read no further than a u32 could need, and the place behind the byte that ends it.
-pub fn number(text: &[u8], start: usize) -> Decimal
+pub(crate) fn number(text: &[u8], start: usize) -> Decimal
     ensures { λ r. ⌜ r .value ≤ 4294967309 ⌝ }
 {
     let mut value: u64 = 0;
@@ -66,7 +66,7 @@ fn least(n: u64, most: usize) -> usize
 }
 
 // Reads how many elements there are, how many of them are given, and these; the rest keep what they had.
-pub fn bytes(text: &[u8], start: usize, out: &mut [u8]) -> Filled {
+pub(crate) fn bytes(text: &[u8], start: usize, out: &mut [u8]) -> Filled {
     let total = number(text, start);
     let given = number(text, total.next);
     let mut next = given.next;
@@ -85,7 +85,7 @@ pub fn bytes(text: &[u8], start: usize, out: &mut [u8]) -> Filled {
 }
 
 // The same for numbers of 32 bits.
-pub fn numbers(text: &[u8], start: usize, out: &mut [u32]) -> Filled {
+pub(crate) fn numbers(text: &[u8], start: usize, out: &mut [u32]) -> Filled {
     let total = number(text, start);
     let given = number(text, total.next);
     let mut next = given.next;

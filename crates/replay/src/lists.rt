@@ -134,7 +134,7 @@ fn call_parts<'a, 'b>(
 }
 
 // A recorded call of a reading: its kinds, its pairs, its text and the length of its row buffer. Answers where the next call starts.
-pub fn replay_list(recorded: &[u8], entry: u64, start: usize) -> usize {
+pub(crate) fn replay_list(recorded: &[u8], entry: u64, start: usize) -> usize {
     let mut kinds = [10u8; 4100];
     let mut pairs = [0u32; 8200];
     let mut text = [97u8; 65540];

@@ -58,7 +58,7 @@ fn call_set(entry: u64, set: Substitutions, present: bool, text: &[u8], t: usize
 
 // A recorded call that takes a set: its places and flags, whether there is a subs attribute, and the text. Answers where the
 // next call starts.
-pub fn replay_set(recorded: &[u8], entry: u64, start: usize) -> usize {
+pub(crate) fn replay_set(recorded: &[u8], entry: u64, start: usize) -> usize {
     let mut text = [97u8; 65540];
     let read = places_at(recorded, start);
     let flags = number(recorded, read.next);

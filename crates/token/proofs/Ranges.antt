@@ -4,16 +4,16 @@ use native.Mathlib.Omega.{arith}
 use native.Mathlib.Decide.{decLt}
 use mathlib.Core.Bool.{Bool, true, false}
 use mathlib.Core.Path.{_≡_, refl, sym, ap, subst, _∙_}
-use mathlib.Core.List.{List, []}
+use mathlib.Core.List.{List, [], _∷_, _++_, append-nil}
 use lib.Dec.{eqb}
-use lib.ListN.{getD}
+use lib.ListN.{length, getD, length-append}
 use borrow.Author.Tests.{eqb-true, eqb-false, lt-ltb, le-ltb}
 use Rattle.token.specs.declared.Run.{Run}
 use Rattle.token.specs.Kind.{attrRef, whitespace}
-use Rattle.token.specs.Line.{Token, lineOf, tokenAt}
+use Rattle.token.specs.Line.{Line, Token, lineOf, tokenAt}
 use Rattle.token.specs.Run.{kept, trimStart, trimEnd, trim, run, emptyRun, runOf, firstPlace, between}
 use Rattle.token.specs.Places.{Ends, all, Narrowed, StartsAt, EndsAt, Part}
-use Rattle.token.specs.KeptLaws.{is-kind, not-kind, kept-none, kept-first, kept-skip, kept-last, kept-last-skip, trimStart-space, trimStart-stop, trimEnd-space, trimEnd-stop}
+use Rattle.token.specs.KeptLaws.{is-kind, not-kind, kept-none, kept-first, kept-skip, kept-last, kept-last-skip, kept-split, trimStart-space, trimStart-stop, trimEnd-space, trimEnd-stop}
 use Rattle.token.specs.PlacesLaws.{starts-place, run-here, run-empty}
 
 -- ---- from the left: what is left of from..to at i has the same f
@@ -53,6 +53,59 @@ module _ (kinds : List ℕ) (from to r : ℕ) (p : (text pairs : List ℕ) → r
 
   pub first-starts : from ≤ to → StartsAt all kinds from to r
   first-starts h = first-left (to - from) from refl (left-start all kinds from to h)
+
+-- ---- token by token: what is read of from..to when the next kept token is at `at`, and `past` is past the last one that was read
+
+pub record Reading (kinds : List ℕ) (from to at past : ℕ) : Type 0 where
+  pub low : from ≤ at
+  pub high : at ≤ to
+  pub here : at < to → getD kinds at 0 ≡ attrRef → ⊥
+  pub read : EndsAt all kinds from at past
+
+module _ (kinds : List ℕ) (from to : ℕ) where
+  pub reading-start : from ≤ to → (from < to → getD kinds from 0 ≡ attrRef → ⊥) → Reading kinds from to from from
+  reading-start h e =
+      record { low = omega arith; high = h; here = e; read = record { part = record { low = omega arith; mid = omega arith; high = omega arith; same = λ text pairs. refl }; last = λ lt. absurd (omega arith) } }
+
+  -- between a kept token and the next nothing is kept
+  none-between : (l : Line) (at next : ℕ) → at ≤ next → next ≤ to → kept l next to ≡ kept l at to → kept l at next ≡ []
+  none-between l at next a b e =
+      let parts : length (kept l at to) ≡ length (kept l at next) + length (kept l next to) = ap length (kept-split l at to next a b) ∙ length-append (kept l at next) (kept l next to) in
+      let same : length (kept l next to) ≡ length (kept l at to) = ap length e in
+      none (kept l at next) (omega (arith, parts, same))
+    where
+      none : (ts : List Token) → length ts ≡ 0 → ts ≡ []
+      none [] z = refl
+      none (t ∷ ts) z = absurd (omega (arith, z))
+
+  pub reading-next : (at past next : ℕ) → Reading kinds from to at past → at < to → StartsAt all kinds (at + 1) to next → Reading kinds from to next (at + 1)
+  reading-next at past next w h v =
+      record {
+        low = omega (arith, w .low, v .part .low);
+        high = v .part .mid;
+        here = v .first;
+        read = record {
+          part = record {
+            low = omega arith;
+            mid = omega (arith, w .low);
+            high = v .part .low;
+            same = λ text pairs.
+                let l = lineOf kinds text pairs in
+                sym (kept-split l from next (at + 1) (omega (arith, w .low)) (v .part .low)
+                ∙ ap (λ (x : List Token). kept l from (at + 1) ++ x) (none-between l (at + 1) next (v .part .low) (v .part .mid) (v .part .same text pairs))
+                ∙ append-nil (kept l from (at + 1)));
+          };
+          last = λ lt e. w .here h (subst (λ (n : ℕ). getD kinds n 0 ≡ attrRef) back e);
+        };
+      }
+    where
+      back : at + 1 - 1 ≡ at
+      back = omega arith
+
+  pub reading-end : (at past : ℕ) → Reading kinds from to at past → to ≤ at → EndsAt all kinds from to past
+  reading-end at past w h =
+      let z : at ≡ to = omega (arith, w .high, h) in
+      subst (λ (n : ℕ). EndsAt all kinds from n past) z (w .read)
 
 module _ (kinds : List ℕ) (from to i : ℕ) (h : i < to) (shut : getD kinds i 0 ≡ attrRef → ⊥) (w : Left trimStart kinds from to i) where
   pub left-space : getD kinds i 0 ≡ whitespace → Left trimStart kinds from to (i + 1)

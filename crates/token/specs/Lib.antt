@@ -4,6 +4,7 @@ pub mod Lent
 pub mod Run
 pub mod Names
 pub mod Places
+pub mod Stepping
 pub mod KeptLaws
 pub mod PlacesLaws
 pub mod LineLaws

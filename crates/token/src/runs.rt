@@ -14,8 +14,8 @@ use super::kind::ATTR_REF;
 use super::kind::DOUBLE_QUOTE;
 use super::kind::SINGLE_QUOTE;
 use super::kind::WHITESPACE;
-use super::steps::RunTokens;
-use super::steps::next_kept;
+use super::steps::past_last_kept;
+use super::steps::skip_attr_refs;
 
 // The place of the first kept token, or `to`.
 pub fn first_kept(kinds: &[u8], from: TokenPlace, to: TokenPlace) -> TokenPlace
@@ -23,27 +23,7 @@ pub fn first_kept(kinds: &[u8], from: TokenPlace, to: TokenPlace) -> TokenPlace
     ensures place { λ r. ⌜ ((text pairs : List ℕ) → r .0 ≡ firstPlace (to .0) (kept (lineOf (now (kinds .entry)) text pairs) (from .0) (to .0))) ⌝ }
     ensures part { λ r. ⌜ StartsAt all (now (kinds .entry)) (from .0) (to .0) (r .0) ⌝ }
 {
-    next_kept(RunTokens {
-        kinds,
-        at: from,
-        end: to,
-    })
-}
-
-// The place past the last kept token, or `from`.
-fn past_last_kept(kinds: &[u8], from: TokenPlace, to: TokenPlace) -> TokenPlace
-    requires { ⌜ (from .0 ≤ to .0) × (to .0 ≤ length (now kinds)) ⌝ }
-    ensures { λ r. ⌜ EndsAt all (now (kinds .entry)) (from .0) (to .0) (r .0) ⌝ }
-{
-    let start = from.0;
-    let mut i = to.0;
-    while start < i {
-        if kinds[i - 1] != ATTR_REF {
-            return TokenPlace(i);
-        }
-        i -= 1;
-    }
-    TokenPlace(i)
+    skip_attr_refs(kinds, from, to)
 }
 
 // The place of the first kept token that is not Whitespace, or `to`.

@@ -38,7 +38,7 @@ fn move_kind(mode: Mode, strategy: Strategy, set: Substitutions, sub: Subs) -> S
     }
 }
 
-// One kind. A set that stays is handed back as it is; a move takes it apart and puts it together again.
+// One kind. A set that the move leaves as it is is handed back at once; a move takes it apart and puts it together again.
 pub fn enter_kind(mode: Mode, strategy: Strategy, set: Substitutions, sub: Subs) -> Substitutions
     ensures { λ r. ⌜ r ≡ moveOf mode strategy (numberOf sub) set ⌝ }
 {

@@ -1,4 +1,4 @@
--- `enter_kind` is the set given where it stays, else the move. Assumes nothing.
+-- `enter_kind` is the set given where the move leaves it as it is, else the move. Assumes nothing.
 use borrow.Author.Needs.{needs}
 use Prim.Native.Nat.{_-_}
 use mathlib.Core.Path.{sym, _∙_}

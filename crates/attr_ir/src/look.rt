@@ -25,7 +25,7 @@ ghost use Rattle.token.specs.Run.{kept};
 ghost use Rattle.token.specs.Places.{all, StartsAt};
 ghost use Rattle.attr_ir.specs.Look.{oneSymbol, equalsSign, symbolSight, sightAt, look};
 
-pub fn both(a: bool, b: bool) -> bool
+pub(crate) fn both(a: bool, b: bool) -> bool
     ensures { λ r. ⌜ r ≡ (a && b) ⌝ }
 {
     if a {
@@ -136,7 +136,7 @@ fn sight_at<'a>(
 }
 
 // How an attribute is read, of the tokens kept from `from` up to `to`.
-pub fn look<'a>(
+pub(crate) fn look<'a>(
     kinds: &'a [u8],
     text: &'a [u8],
     pairs: &'a [u32],

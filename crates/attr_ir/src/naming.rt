@@ -95,7 +95,7 @@ fn past(at: TokenPlace, to: TokenPlace) -> TokenPlace
 }
 
 // A named attribute by its runs, of the tokens kept from `from` up to `to`.
-pub fn parse_key_value_attr<'a>(
+pub(crate) fn parse_key_value_attr<'a>(
     kinds: &'a [u8],
     text: &'a [u8],
     pairs: &'a [u32],

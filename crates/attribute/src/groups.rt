@@ -65,7 +65,7 @@ fn push_attr_groups<'a, 'b>(
 }
 
 // Writes a row for each group of a run; whether the list has an id is handed on.
-pub fn put_groups<'a, 'b>(
+pub(crate) fn put_groups<'a, 'b>(
     kinds: &'a [u8],
     delimiter: u8,
     tag: u32,

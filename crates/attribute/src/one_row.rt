@@ -21,7 +21,7 @@ ghost use Rattle.attribute.specs.Attribute.{oneRow, idRun, runRows};
 ghost use Rattle.attribute.specs.Written.{WroteId};
 
 // Writes the row of an attribute of which nothing is left.
-pub fn put_empty(rows: &mut [u32], at: usize, id: bool) -> Written
+pub(crate) fn put_empty(rows: &mut [u32], at: usize, id: bool) -> Written
     requires { ⌜ width * at + width ≤ length (now rows) ⌝ }
     ensures { λ r. ⌜ WroteId (now (rows .entry)) at (oneRow id emptyPositional) (now (rows .exit)) r ⌝ }
 {
@@ -33,7 +33,7 @@ pub fn put_empty(rows: &mut [u32], at: usize, id: bool) -> Written
 }
 
 // Writes the row of the tokens kept from `from` up to `to`, a positional.
-pub fn put_positional<'a, 'b>(
+pub(crate) fn put_positional<'a, 'b>(
     kinds: &'a [u8],
     from: TokenPlace,
     to: TokenPlace,
@@ -48,7 +48,14 @@ pub fn put_positional<'a, 'b>(
 }
 
 // Writes a row of a name and a value; whether the list has an id is handed on.
-pub fn put_named(rows: &mut [u32], at: usize, tag: u32, name: Run, value: Run, id: bool) -> Written
+pub(crate) fn put_named(
+    rows: &mut [u32],
+    at: usize,
+    tag: u32,
+    name: Run,
+    value: Run,
+    id: bool,
+) -> Written
     requires { ⌜ (width * at + width ≤ length (now rows)) × Fits (twoRuns tag name value) ⌝ }
     ensures { λ r. ⌜ WroteId (now (rows .entry)) at (oneRow id (twoRuns tag name value)) (now (rows .exit)) r ⌝ }
 {
@@ -61,7 +68,7 @@ pub fn put_named(rows: &mut [u32], at: usize, tag: u32, name: Run, value: Run, i
 }
 
 // Writes a diagnostic.
-pub fn put_diagnostic(
+pub(crate) fn put_diagnostic(
     rows: &mut [u32],
     at: usize,
     place: TokenPlace,
@@ -79,7 +86,7 @@ pub fn put_diagnostic(
 }
 
 // Writes the row of an id, or what is wrong with it; `has` says that the list already has an id.
-pub fn put_id(rows: &mut [u32], at: usize, run: Run, has: bool) -> Written
+pub(crate) fn put_id(rows: &mut [u32], at: usize, run: Run, has: bool) -> Written
     requires { ⌜ (width * at + width ≤ length (now rows)) × small (run .place .0) × small (run .count) ⌝ }
     ensures { λ r. ⌜ WroteId (now (rows .entry)) at (idRun has run) (now (rows .exit)) r ⌝ }
 {

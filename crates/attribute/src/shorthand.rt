@@ -99,7 +99,7 @@ fn is_hash(k: u8) -> bool
 }
 
 // Writes the rows of an attribute in shorthand; `has` says that the list already has an id.
-pub fn push_shorthand<'a, 'b>(
+pub(crate) fn push_shorthand<'a, 'b>(
     kinds: &'a [u8],
     text: &'a [u8],
     pairs: &'a [u32],

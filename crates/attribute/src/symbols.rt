@@ -9,7 +9,7 @@ ghost use Rattle.token.specs.Places.{FoundAt};
 ghost use Rattle.attr_ir.specs.Look.{isSymbol};
 
 // The place of the first kept Dots, Hash or Percent of any length, or `to`.
-pub fn find_symbol(kinds: &[u8], from: TokenPlace, to: TokenPlace) -> TokenPlace
+pub(crate) fn find_symbol(kinds: &[u8], from: TokenPlace, to: TokenPlace) -> TokenPlace
     requires { ⌜ (from .0 ≤ to .0) × (to .0 ≤ length (now kinds)) ⌝ }
     ensures { λ r. ⌜ FoundAt isSymbol (now (kinds .entry)) (from .0) (to .0) (r .0) ⌝ }
 {

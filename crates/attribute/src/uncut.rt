@@ -22,7 +22,7 @@ ghost use Rattle.row.specs.Row.{width};
 ghost use Rattle.attribute.specs.Written.{Uncut, mostRows, Put};
 
 // Writes the rows of an attribute by its runs, from row `at` on; `has` says that the list already has an id.
-pub fn put_ir<'a, 'b>(
+pub(crate) fn put_ir<'a, 'b>(
     kinds: &'a [u8],
     text: &'a [u8],
     pairs: &'a [u32],

@@ -25,7 +25,7 @@ pub struct Named {
 }
 
 // The place of the first comma from `from` on, or the end of the text.
-pub fn next_comma(text: &[u8], from: usize) -> usize
+pub(crate) fn next_comma(text: &[u8], from: usize) -> usize
     requires { ⌜ from ≤ length (now text) ⌝ }
     ensures { λ r. ⌜ r ≡ from + toComma (drop from (now (text .entry))) ⌝ }
     ensures within { λ r. ⌜ (from ≤ r) × (r ≤ length (now (text .entry))) ⌝ }
@@ -52,7 +52,7 @@ fn modifier(b: u8) -> u8
 }
 
 // Whether the text holds any + or -. Every byte is looked at, and none decides where to go on, so that the compiler takes sixteen at a time.
-pub fn has_modifier(text: &[u8]) -> bool
+pub(crate) fn has_modifier(text: &[u8]) -> bool
     ensures { λ r. ⌜ r ≡ modified (now (text .entry)) ⌝ }
 {
     let mut found: u8 = 0;
@@ -65,7 +65,7 @@ pub fn has_modifier(text: &[u8]) -> bool
 }
 
 // Whether the text begins with + or -, as most do that hold one.
-pub fn begins_modified(text: &[u8]) -> bool
+pub(crate) fn begins_modified(text: &[u8]) -> bool
     ensures { λ r. ⌜ r ≡ isModifier (getD (now (text .entry)) 0 0) ⌝ }
 {
     if text.len() == 0 {
@@ -75,7 +75,7 @@ pub fn begins_modified(text: &[u8]) -> bool
 }
 
 // The first place from `start` on that holds no space, or `end`.
-pub fn skip_spaces(text: &[u8], start: usize, end: usize) -> usize
+pub(crate) fn skip_spaces(text: &[u8], start: usize, end: usize) -> usize
     requires { ⌜ (start ≤ end) × (end ≤ length (now text)) ⌝ }
     ensures { λ r. ⌜ between r end (now (text .entry)) ≡ front (between start end (now (text .entry))) ⌝ }
     ensures within { λ r. ⌜ (start ≤ r) × (r ≤ end) ⌝ }
@@ -91,7 +91,7 @@ pub fn skip_spaces(text: &[u8], start: usize, end: usize) -> usize
 }
 
 // The place after the last byte before `end` that is no space, or `start`.
-pub fn drop_spaces(text: &[u8], start: usize, end: usize) -> usize
+pub(crate) fn drop_spaces(text: &[u8], start: usize, end: usize) -> usize
     requires { ⌜ (start ≤ end) × (end ≤ length (now text)) ⌝ }
     ensures { λ r. ⌜ between start r (now (text .entry)) ≡ back (between start end (now (text .entry))) ⌝ }
     ensures within { λ r. ⌜ (start ≤ r) × (r ≤ end) ⌝ }
@@ -107,7 +107,7 @@ pub fn drop_spaces(text: &[u8], start: usize, end: usize) -> usize
 }
 
 // The part as the mode reads it: in sheet mode without the spaces at its ends.
-pub fn part_at(mode: Mode, text: &[u8], start: usize, end: usize) -> Span
+pub(crate) fn part_at(mode: Mode, text: &[u8], start: usize, end: usize) -> Span
     requires { ⌜ (start ≤ end) × (end ≤ length (now text)) ⌝ }
     ensures { λ r. ⌜ PartAt mode start end (now (text .entry)) r ⌝ }
     ensures within { λ r. ⌜ (r .start ≤ r .end) × (r .end ≤ end) ⌝ }
@@ -126,7 +126,7 @@ pub fn part_at(mode: Mode, text: &[u8], start: usize, end: usize) -> Span
 }
 
 // Leading + inserts, else trailing + prepends, else leading - removes, else insert.
-pub fn name_at(text: &[u8], start: usize, end: usize) -> Named
+pub(crate) fn name_at(text: &[u8], start: usize, end: usize) -> Named
     requires { ⌜ (start < end) × (end ≤ length (now text)) ⌝ }
     ensures { λ r. ⌜ NameAt start end (now (text .entry)) r ⌝ }
     ensures within { λ r. ⌜ (r .start ≤ r .end) × (r .end ≤ end) ⌝ }
@@ -162,7 +162,7 @@ pub fn name_at(text: &[u8], start: usize, end: usize) -> Named
 }
 
 // The name that stands from `start` up to `end`.
-pub fn look_up_in(text: &[u8], start: usize, end: usize) -> Lookup
+pub(crate) fn look_up_in(text: &[u8], start: usize, end: usize) -> Lookup
     requires { ⌜ (start ≤ end) × (end ≤ length (now text)) ⌝ }
     ensures { λ r. ⌜ r ≡ lookupOf (take (end - start) (drop start (now (text .entry)))) ⌝ }
 {

@@ -39,7 +39,12 @@ fn move_kind(mode: Mode, strategy: Strategy, set: Substitutions, sub: Subs) -> S
 }
 
 // One kind. A set that the move leaves as it is is handed back at once; a move takes it apart and puts it together again.
-pub fn enter_kind(mode: Mode, strategy: Strategy, set: Substitutions, sub: Subs) -> Substitutions
+pub(crate) fn enter_kind(
+    mode: Mode,
+    strategy: Strategy,
+    set: Substitutions,
+    sub: Subs,
+) -> Substitutions
     ensures { λ r. ⌜ r ≡ moveOf mode strategy (numberOf sub) set ⌝ }
 {
     if is_no_op(strategy, set, sub) {
@@ -49,7 +54,7 @@ pub fn enter_kind(mode: Mode, strategy: Strategy, set: Substitutions, sub: Subs)
 }
 
 // Kinds 1 to 6.
-pub fn enter_normal(mode: Mode, strategy: Strategy, set: Substitutions) -> Substitutions
+pub(crate) fn enter_normal(mode: Mode, strategy: Strategy, set: Substitutions) -> Substitutions
     ensures { λ r. ⌜ r ≡ entered mode strategy (1 ∷ 2 ∷ 3 ∷ 4 ∷ 5 ∷ 6 ∷ []) set ⌝ }
 {
     let a = enter_kind(mode, strategy, set, Subs::SpecialChars);
@@ -61,7 +66,7 @@ pub fn enter_normal(mode: Mode, strategy: Strategy, set: Substitutions) -> Subst
 }
 
 // The second kind of verbatim, after specialchars.
-pub fn verbatim_second(mode: Mode) -> Subs
+pub(crate) fn verbatim_second(mode: Mode) -> Subs
     ensures { λ r. ⌜ 1 ∷ numberOf r ∷ [] ≡ verbatimOf mode ⌝ }
 {
     match mode {
@@ -70,7 +75,7 @@ pub fn verbatim_second(mode: Mode) -> Subs
     }
 }
 
-pub fn enter_verbatim(mode: Mode, strategy: Strategy, set: Substitutions) -> Substitutions
+pub(crate) fn enter_verbatim(mode: Mode, strategy: Strategy, set: Substitutions) -> Substitutions
     ensures { λ r. ⌜ r ≡ entered mode strategy (verbatimOf mode) set ⌝ }
 {
     let a = enter_kind(mode, strategy, set, Subs::SpecialChars);
@@ -116,7 +121,7 @@ fn set_of_verbatim(mode: Mode) -> Substitutions
 }
 
 // The set that has the kinds of a name and no others.
-pub fn set_of_name(mode: Mode, step: StepOrGroup) -> Substitutions
+pub(crate) fn set_of_name(mode: Mode, step: StepOrGroup) -> Substitutions
     ensures { λ r. ⌜ r ≡ setOfName mode step ⌝ }
 {
     match step {
@@ -134,7 +139,12 @@ pub fn set_of_name(mode: Mode, step: StepOrGroup) -> Substitutions
 }
 
 // A name. A held set with no flag is empty, and an insert makes of it the set of the name alone, which is known.
-pub fn enter(mode: Mode, strategy: Strategy, step: StepOrGroup, set: Substitutions) -> Substitutions
+pub(crate) fn enter(
+    mode: Mode,
+    strategy: Strategy,
+    step: StepOrGroup,
+    set: Substitutions,
+) -> Substitutions
     requires { ⌜ held set ≡ true ⌝ }
     ensures { λ r. ⌜ r ≡ entered mode strategy (kindsOf mode step) set ⌝ }
 {

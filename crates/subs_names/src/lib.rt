@@ -27,7 +27,7 @@ pub enum Lookup {
 }
 
 // Whether the part is the name, byte for byte.
-pub fn is_name(part: &[u8], name: &[u8]) -> bool
+fn is_name(part: &[u8], name: &[u8]) -> bool
     ensures { λ r. ⌜ r ≡ same (now (part .entry)) (now (name .entry)) ⌝ }
 {
     if part.len() != name.len() {

@@ -3,7 +3,7 @@ ghost use mathlib.Core.Path.{_≡_};
 ghost use Prim.Native.Nat.{_≤_, _<_};
 ghost use Rattle.substitutions.specs.Kinds.{flagOf, flagged};
 
-pub fn flag_of(k: u8) -> u8
+pub(crate) fn flag_of(k: u8) -> u8
     requires { ⌜ (1 ≤ k) × (k ≤ 7) ⌝ }
     ensures { λ r. ⌜ r ≡ flagOf k ⌝ }
     ensures within { λ r. ⌜ (1 ≤ r) × (r ≤ 64) ⌝ }
@@ -11,7 +11,7 @@ pub fn flag_of(k: u8) -> u8
     1 << (k - 1)
 }
 
-pub fn is_flagged(k: u8, flags: u8) -> bool
+pub(crate) fn is_flagged(k: u8, flags: u8) -> bool
     requires { ⌜ (1 ≤ k) × (k ≤ 7) ⌝ }
     ensures { λ r. ⌜ r ≡ flagged k flags ⌝ }
 {

@@ -5,7 +5,7 @@ ghost use Rattle.substitutions.specs.Moves.{filled, without, led};
 ghost use Rattle.substitutions.specs.Loops.{closed};
 
 // The first empty place among the first n is filled with k.
-pub fn fill(places: [u8; 7], n: usize, k: u8) -> [u8; 7]
+pub(crate) fn fill(places: [u8; 7], n: usize, k: u8) -> [u8; 7]
     requires { ⌜ n ≤ 7 ⌝ }
     ensures { λ r. ⌜ r ≡ filled n k places ⌝ }
 {
@@ -22,7 +22,7 @@ pub fn fill(places: [u8; 7], n: usize, k: u8) -> [u8; 7]
 }
 
 // What stands behind place `at` moves forward by one.
-pub fn close(places: [u8; 7], at: usize) -> [u8; 7]
+pub(crate) fn close(places: [u8; 7], at: usize) -> [u8; 7]
     requires { ⌜ at < 7 ⌝ }
     ensures { λ r. ⌜ r ≡ closed at places ⌝ }
 {
@@ -36,7 +36,7 @@ pub fn close(places: [u8; 7], at: usize) -> [u8; 7]
     p
 }
 
-pub fn take_out(places: [u8; 7], k: u8) -> [u8; 7]
+pub(crate) fn take_out(places: [u8; 7], k: u8) -> [u8; 7]
     ensures { λ r. ⌜ r ≡ without k places ⌝ }
 {
     let mut i: usize = 0;
@@ -50,7 +50,7 @@ pub fn take_out(places: [u8; 7], k: u8) -> [u8; 7]
 }
 
 // Each place takes what stood before it, up to where k stood.
-pub fn lead(places: [u8; 7], k: u8) -> [u8; 7]
+pub(crate) fn lead(places: [u8; 7], k: u8) -> [u8; 7]
     ensures { λ r. ⌜ r ≡ led k places ⌝ }
 {
     let mut p = places;

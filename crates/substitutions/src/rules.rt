@@ -8,7 +8,7 @@ ghost use Rattle.substitutions.specs.Held.{empty};
 ghost use Rattle.substitutions.specs.Loops.{few, left, normalPlaces};
 
 // Whether all places from `from` on are empty.
-pub fn rest_empty(places: [u8; 7], from: usize) -> bool
+pub(crate) fn rest_empty(places: [u8; 7], from: usize) -> bool
     requires { ⌜ from ≤ 7 ⌝ }
     ensures { λ r. ⌜ r ≡ empty (drop from places) ⌝ }
 {
@@ -23,7 +23,7 @@ pub fn rest_empty(places: [u8; 7], from: usize) -> bool
 }
 
 // Whether the places are those of the normal set.
-pub fn is_normal(places: [u8; 7]) -> bool
+pub(crate) fn is_normal(places: [u8; 7]) -> bool
     ensures { λ r. ⌜ r ≡ normalPlaces places ⌝ }
 {
     if places[0] != 1 {
@@ -48,7 +48,7 @@ pub fn is_normal(places: [u8; 7]) -> bool
 }
 
 // Each place takes its kind's flag: the flags left, or 255 at a place that breaks a rule.
-pub fn take_flags(places: [u8; 7], flags: u8) -> u8
+pub(crate) fn take_flags(places: [u8; 7], flags: u8) -> u8
     requires { ⌜ flags < 128 ⌝ }
     ensures { λ r. ⌜ r ≡ left flags places ⌝ }
 {
@@ -75,7 +75,7 @@ pub fn take_flags(places: [u8; 7], flags: u8) -> u8
 }
 
 // Whether a byte has at most one of the seven flags, and no bit 7.
-pub fn at_most_one(flags: u8) -> bool
+pub(crate) fn at_most_one(flags: u8) -> bool
     ensures { λ r. ⌜ r ≡ few flags ⌝ }
 {
     match flags {

@@ -19,7 +19,7 @@ pub struct RunTokens<'a> {
 }
 
 // The place of the first token from `at` on that is no AttrRef, or `end`.
-pub fn skip_attr_refs(kinds: &[u8], at: TokenPlace, end: TokenPlace) -> TokenPlace
+pub(crate) fn skip_attr_refs(kinds: &[u8], at: TokenPlace, end: TokenPlace) -> TokenPlace
     requires { ⌜ (at .0 ≤ end .0) × (end .0 ≤ length (now kinds)) ⌝ }
     ensures { λ p. ⌜ ((text pairs : List ℕ) → p .0 ≡ firstPlace (end .0) (kept (lineOf (now (kinds .entry)) text pairs) (at .0) (end .0))) ⌝ }
 {
@@ -43,7 +43,7 @@ fn next_after(kinds: &[u8], at: TokenPlace, end: TokenPlace) -> TokenPlace
 }
 
 // The one step: past the token at the place, to the next token kept, or to the place past the run.
-pub fn step<'a>(r: RunTokens<'a>) -> RunTokens<'a>
+pub(crate) fn step<'a>(r: RunTokens<'a>) -> RunTokens<'a>
     requires { ⌜ (r .at .0 < r .end .0) × (r .end .0 ≤ length (now (r .kinds))) ⌝ }
     ensures { λ q. ⌜ Stepped (r .entry) q ⌝ }
 {
@@ -55,7 +55,7 @@ pub fn step<'a>(r: RunTokens<'a>) -> RunTokens<'a>
 }
 
 // The place past the last token kept, or `from` where there is none, of places of which the first is kept: their tokens are read one by one.
-pub fn past_last_kept(kinds: &[u8], from: TokenPlace, to: TokenPlace) -> TokenPlace
+pub(crate) fn past_last_kept(kinds: &[u8], from: TokenPlace, to: TokenPlace) -> TokenPlace
     requires { ⌜ (from .0 ≤ to .0) × (to .0 ≤ length (now kinds)) × (from .0 < to .0 → getD (now kinds) (from .0) 0 ≡ attrRef → ⊥) ⌝ }
     ensures { λ r. ⌜ EndsAt all (now (kinds .entry)) (from .0) (to .0) (r .0) ⌝ }
 {

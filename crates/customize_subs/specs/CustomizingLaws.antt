@@ -22,14 +22,14 @@ use Rattle.customize_subs.specs.Customizing.{partOf, moveOf, entered, st
 use Rattle.customize_subs.specs.TextLaws.{between-length, between-cons, parts-cons, parts-none}
 use Rattle.customize_subs.specs.declared.parts.Span.{Span}
 use Rattle.customize_subs.specs.Places.{toComma, between, partsFrom, frontOf, PartAt, named, namedAt, NameAt}
-use Rattle.customize_subs.specs.Steps.{stays}
+use Rattle.customize_subs.specs.Steps.{isNoOp}
 
--- A set that stays is what the move gives.
-pub stays-same : (m : Mode) (t : Strategy) (k : ℕ) (s : Substitutions) → stays t k s ≡ true → s ≡ moveOf m t k s
+-- A set that isNoOp is what the move gives.
+pub no-op-same : (m : Mode) (t : Strategy) (k : ℕ) (s : Substitutions) → isNoOp t k s ≡ true → s ≡ moveOf m t k s
 unfolding insertOf removeOf
-stays-same m Insert k s e = rw e refl
-stays-same m Prepend k s e = absurd (false≢true e)
-stays-same m Remove k s e = rw (not-true (flagged k (s .flags)) e) refl
+no-op-same m Insert k s e = rw e refl
+no-op-same m Prepend k s e = absurd (false≢true e)
+no-op-same m Remove k s e = rw (not-true (flagged k (s .flags)) e) refl
 
 -- The first and the last byte of a part, and what is left without it.
 module _ (a e : ℕ) (l : List ℕ) (lt : a < e) (le : e ≤ length l) where

@@ -1,4 +1,4 @@
-pub mod AloneLaws
+pub mod SetOfNameLaws
 pub mod Text
 pub mod Customizing
 pub mod Sheet

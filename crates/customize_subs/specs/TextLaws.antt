@@ -11,6 +11,7 @@ use lib.Dec.{eqb, ltb, leb, leb·suc-suc}
 use lib.ListN.{length, take, drop, getD, drop-of-length-le, length-drop}
 use lib.Seq.{drop-cons, drop-drop, take-suc, getD-drop, length-take-le}
 use Rattle.substitutions.specs.Kinds.{one}
+use Rattle.substitutions.specs.KindsLaws.{bool-eq}
 use Rattle.customize_subs.specs.Text.{onFirst, split, front, blank, back, modified}
 use Rattle.customize_subs.specs.Places.{toComma, isModifier, between, partsFrom}
 
@@ -151,11 +152,6 @@ split-first (b ∷ bs) = by (eqb b 44) (split-first bs)
         → cond t ([] ∷ split bs) (onFirst b (split bs)) ≡ take (cond t 0 (suc (toComma bs))) (b ∷ bs) ∷ rest (cond t 0 (suc (toComma bs))) (b ∷ bs)
     by true ih = rw (lt-ltb 0 (suc (length bs)) (omega arith))
     by false ih = rw (ih, leb·suc-suc (suc (toComma bs)) (length bs))
-
-bool-eq : (s t : Bool) → (s ≡ true → t ≡ true) → (t ≡ true → s ≡ true) → s ≡ t
-bool-eq true t f g = sym (f refl)
-bool-eq false true f g = g refl
-bool-eq false false f g = refl
 
 -- two tests are the same where the facts are
 leb-same : (a b c d : ℕ) → (a ≤ b → c ≤ d) → (c ≤ d → a ≤ b) → leb a b ≡ leb c d

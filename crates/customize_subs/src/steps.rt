@@ -13,11 +13,11 @@ ghost use Rattle.substitutions.specs.Kinds.{numberOf};
 ghost use Rattle.substitutions.specs.Held.{held};
 ghost use Rattle.customize_subs.specs.Customizing.{moveOf, verbatimOf, kindsOf, entered};
 ghost use Rattle.substitutions.specs.Moves.{set};
-ghost use Rattle.customize_subs.specs.Steps.{stays, aloneOf};
+ghost use Rattle.customize_subs.specs.Steps.{isNoOp, setOfName};
 
 // Whether a move leaves the set as it is: an insert of what is in it, a remove of what is not.
-fn stays(strategy: Strategy, set: Substitutions, sub: Subs) -> bool
-    ensures { λ r. ⌜ r ≡ stays strategy (numberOf sub) set ⌝ }
+fn is_no_op(strategy: Strategy, set: Substitutions, sub: Subs) -> bool
+    ensures { λ r. ⌜ r ≡ isNoOp strategy (numberOf sub) set ⌝ }
 {
     let there = contains(set, sub);
     match strategy {
@@ -38,11 +38,11 @@ fn move_kind(mode: Mode, strategy: Strategy, set: Substitutions, sub: Subs) -> S
     }
 }
 
-// One kind. A set that stays is handed back as it is; a move takes it apart and puts it together again.
+// One kind. A set that the move leaves as it is is handed back at once; a move takes it apart and puts it together again.
 pub fn enter_kind(mode: Mode, strategy: Strategy, set: Substitutions, sub: Subs) -> Substitutions
     ensures { λ r. ⌜ r ≡ moveOf mode strategy (numberOf sub) set ⌝ }
 {
-    if stays(strategy, set, sub) {
+    if is_no_op(strategy, set, sub) {
         return set;
     }
     move_kind(mode, strategy, set, sub)
@@ -106,8 +106,8 @@ fn placed(places: [u8; 7], flags: u8) -> Substitutions
     Substitutions { places, flags }
 }
 
-fn verbatim_alone(mode: Mode) -> Substitutions
-    ensures { λ r. ⌜ r ≡ aloneOf mode StepOrGroup.Verbatim ⌝ }
+fn set_of_verbatim(mode: Mode) -> Substitutions
+    ensures { λ r. ⌜ r ≡ setOfName mode StepOrGroup.Verbatim ⌝ }
 {
     match mode {
         Mode::Port => placed([1, 4, 0, 0, 0, 0, 0], 9),
@@ -116,13 +116,13 @@ fn verbatim_alone(mode: Mode) -> Substitutions
 }
 
 // The set that has the kinds of a name and no others.
-pub fn alone(mode: Mode, step: StepOrGroup) -> Substitutions
-    ensures { λ r. ⌜ r ≡ aloneOf mode step ⌝ }
+pub fn set_of_name(mode: Mode, step: StepOrGroup) -> Substitutions
+    ensures { λ r. ⌜ r ≡ setOfName mode step ⌝ }
 {
     match step {
         StepOrGroup::None => placed([0, 0, 0, 0, 0, 0, 0], 0),
         StepOrGroup::Normal => placed([1, 2, 3, 4, 5, 6, 0], 63),
-        StepOrGroup::Verbatim => verbatim_alone(mode),
+        StepOrGroup::Verbatim => set_of_verbatim(mode),
         StepOrGroup::SpecialChars => placed([1, 0, 0, 0, 0, 0, 0], 1),
         StepOrGroup::Quotes => placed([2, 0, 0, 0, 0, 0, 0], 2),
         StepOrGroup::Attributes => placed([3, 0, 0, 0, 0, 0, 0], 4),
@@ -140,7 +140,7 @@ pub fn enter(mode: Mode, strategy: Strategy, step: StepOrGroup, set: Substitutio
 {
     if set.flags == 0 {
         if let Strategy::Insert = strategy {
-            return alone(mode, step);
+            return set_of_name(mode, step);
         }
     }
     enter_kinds(mode, strategy, step, set)

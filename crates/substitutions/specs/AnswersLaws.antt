@@ -16,7 +16,7 @@ use Rattle.substitutions.specs.Held.{held, sound, empty}
 use Rattle.substitutions.specs.Moves.{set, filled, without, led, insertOf, removeOf, prependOf, refusalOf, answer}
 use Rattle.substitutions.specs.KindsLaws.{and-left, and-right}
 use Rattle.substitutions.specs.HeldLaws.{held-is, sound-is}
-use Rattle.substitutions.specs.Loops.{left, leftOver, few, normalPlaces}
+use Rattle.substitutions.specs.Loops.{left, unclaimedFlags, few, normalPlaces}
 
 pub few-not : (f : ℕ) → (f ≡ 0 → ⊥) → (f ≡ 1 → ⊥) → (f ≡ 2 → ⊥) → (f ≡ 4 → ⊥) → (f ≡ 8 → ⊥) → (f ≡ 16 → ⊥) → (f ≡ 32 → ⊥) → (f ≡ 64 → ⊥)
     → few f ≡ false
@@ -24,12 +24,12 @@ unfolding few
 few-not f n0 n1 n2 n3 n4 n5 n6 n7 =
     rw (ne-eqb f 0 n0, ne-eqb f 1 n1, ne-eqb f 2 n2, ne-eqb f 4 n3, ne-eqb f 8 n4, ne-eqb f 16 n5, ne-eqb f 32 n6, ne-eqb f 64 n7)
 
-pub left-big : (s : Substitutions) → 128 ≤ s .flags → 255 ≡ leftOver s
-unfolding leftOver
+pub left-big : (s : Substitutions) → 128 ≤ s .flags → 255 ≡ unclaimedFlags s
+unfolding unclaimedFlags
 left-big s h = rw (le-ltb (s .flags) 128 h)
 
-pub left-small : (s : Substitutions) → s .flags < 128 → left (s .flags) (s .places) ≡ leftOver s
-unfolding leftOver
+pub left-small : (s : Substitutions) → s .flags < 128 → left (s .flags) (s .places) ≡ unclaimedFlags s
+unfolding unclaimedFlags
 left-small s h = rw (lt-ltb (s .flags) 128 h)
 
 -- The normal set has no flag left over.
@@ -60,28 +60,28 @@ normal-places (a ∷ b ∷ c ∷ d ∷ f ∷ g ∷ i ∷ []) h e =
     refl
 normal-places (a ∷ b ∷ c ∷ d ∷ f ∷ g ∷ i ∷ j ∷ ps) h e = absurd (omega (arith, h))
 
-pub normal-left : (s : Substitutions) → length (s .places) ≡ 7 → s .flags ≡ 63 → normalPlaces (s .places) ≡ true → 0 ≡ leftOver s
-unfolding leftOver left empty flagged
+pub normal-left : (s : Substitutions) → length (s .places) ≡ 7 → s .flags ≡ 63 → normalPlaces (s .places) ≡ true → 0 ≡ unclaimedFlags s
+unfolding unclaimedFlags left empty flagged
 normal-left s seven e n = rw (e, normal-places (s .places) seven n) refl
 
 -- The refusals, by what is left over.
 module _ (s : Substitutions) (seven : length (s .places) ≡ 7) where
-  pub refusal-10 : (m : Mode) → few (leftOver s) ≡ false → setNotHeld ≡ refusalOf m s
+  pub refusal-10 : (m : Mode) → few (unclaimedFlags s) ≡ false → setNotHeld ≡ refusalOf m s
   unfolding refusalOf
   refusal-10 Port e = rw (held-is s seven, e)
   refusal-10 Sheet e = rw (held-is s seven, e)
 
-  pub refusal-port : few (leftOver s) ≡ true → 0 ≡ refusalOf Port s
+  pub refusal-port : few (unclaimedFlags s) ≡ true → 0 ≡ refusalOf Port s
   unfolding refusalOf
   refusal-port e = rw (held-is s seven, e)
 
-  pub refusal-sheet : few (leftOver s) ≡ true → leftOver s ≡ 0 → 0 ≡ refusalOf Sheet s
+  pub refusal-sheet : few (unclaimedFlags s) ≡ true → unclaimedFlags s ≡ 0 → 0 ≡ refusalOf Sheet s
   unfolding refusalOf
   refusal-sheet e z = rw (held-is s seven, e, sound-is s seven, z)
 
-  pub refusal-11 : few (leftOver s) ≡ true → (leftOver s ≡ 0 → ⊥) → setNotSound ≡ refusalOf Sheet s
+  pub refusal-11 : few (unclaimedFlags s) ≡ true → (unclaimedFlags s ≡ 0 → ⊥) → setNotSound ≡ refusalOf Sheet s
   unfolding refusalOf
-  refusal-11 e z = rw (held-is s seven, e, sound-is s seven, ne-eqb (leftOver s) 0 z)
+  refusal-11 e z = rw (held-is s seven, e, sound-is s seven, ne-eqb (unclaimedFlags s) 0 z)
 
 -- A set that is not refused is held.
 pub accepted : (m : Mode) (s : Substitutions) → refusalOf m s ≡ 0 → held s ≡ true

@@ -14,7 +14,7 @@ use Rattle.substitutions.specs.Kinds.{flagOf, flagged, one, sum}
 use Rattle.substitutions.specs.Held.{times, small, empty, packed, once, covered, spare, spares, held, sound}
 use Rattle.substitutions.specs.KindsLaws.{and-left, and-right, and-both, bool-eq, each-at, each-all, sum-same, sum-add, one-le, bit, flags, cleared, few-is, none-is}
 use Rattle.substitutions.specs.Loops.{few}
-use Rattle.substitutions.specs.Loops.{left, leftOver, few}
+use Rattle.substitutions.specs.Loops.{left, unclaimedFlags, few}
 
 -- No kind stands in more places than it has flags: no kind twice, and a flag for every kind placed.
 abbrev pub Within : ℕ → List ℕ → Type 0
@@ -218,8 +218,8 @@ few-below f e = by (ltb f 128) refl
     by false q = absurd (false≢true (sym (few-big f (ltb-false f 128 q)) ∙ e))
 
 -- Held and sound, decided by what is left over.
-pub held-is : (s : Substitutions) → length (s .places) ≡ 7 → held s ≡ few (leftOver s)
-unfolding leftOver
+pub held-is : (s : Substitutions) → length (s .places) ≡ 7 → held s ≡ few (unclaimedFlags s)
+unfolding unclaimedFlags
 held-is s seven = bool-eq (held s) (few (cond (ltb (s .flags) 128) (left (s .flags) (s .places)) 255)) to (from (ltb (s .flags) 128) refl)
   where
     to : held s ≡ true → few (cond (ltb (s .flags) 128) (left (s .flags) (s .places)) 255) ≡ true
@@ -243,8 +243,8 @@ held-is s seven = bool-eq (held s) (few (cond (ltb (s .flags) 128) (left (s .fla
           few = omega (arith, left-flags (s .flags) (s .places) (left-good (s .flags) (s .places) h (g .0) (g .1 .0) (g .1 .1)), spare-sum s (g .1 .1), n);
         })
 
-pub sound-is : (s : Substitutions) → length (s .places) ≡ 7 → sound s ≡ eqb (leftOver s) 0
-unfolding sound leftOver few
+pub sound-is : (s : Substitutions) → length (s .places) ≡ 7 → sound s ≡ eqb (unclaimedFlags s) 0
+unfolding sound unclaimedFlags few
 sound-is s seven = by (held s) refl
   where
     by : (t : Bool) → held s ≡ t → t && eqb (spares s) 0 ≡ eqb (cond (ltb (s .flags) 128) (left (s .flags) (s .places)) 255) 0

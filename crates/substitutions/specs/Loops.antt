@@ -35,5 +35,5 @@ unfoldable pub few : ℕ → Bool
 few f = eqb f 0 || eqb f 1 || eqb f 2 || eqb f 4 || eqb f 8 || eqb f 16 || eqb f 32 || eqb f 64
 
 -- What the code computes of a set: the flags left over, 255 where the set is not held for another reason.
-unfoldable pub leftOver : Substitutions → ℕ
-leftOver s = cond (ltb (s .flags) 128) (left (s .flags) (s .places)) 255
+unfoldable pub unclaimedFlags : Substitutions → ℕ
+unclaimedFlags s = cond (ltb (s .flags) 128) (left (s .flags) (s .places)) 255

@@ -15,7 +15,7 @@ use Rattle.substitutions.specs.Held.{times, empty, packed, held, sound}
 use Rattle.substitutions.specs.Moves.{set, filled, without, led, insertOf, removeOf, prependOf}
 unfoldable pub use Rattle.substitutions.specs.Order.{orderOf}
 use Rattle.substitutions.specs.Order.{flagsOf, setOf}
-use Rattle.substitutions.specs.Loops.{left, leftOver}
+use Rattle.substitutions.specs.Loops.{left, unclaimedFlags}
 use Rattle.substitutions.specs.KindsLaws.{and-left, and-right, one-le, each-at, bit, added, flag-within}
 use Rattle.substitutions.specs.HeldLaws.{facts, times-cons, left-good, sound-is}
 use Rattle.substitutions.specs.AnswersLaws.{left-small}
@@ -166,7 +166,7 @@ module _ (s : Substitutions) (k : ℕ) (a : 1 ≤ k) (b : k ≤ 7) (e : held s �
 sound-left : (s : Substitutions) → sound s ≡ true → left (s .flags) (s .places) ≡ 0
 sound-left s e =
     let h = facts s (sound-held s e) in
-    left-small s (h .clear) ∙ eqb-true (leftOver s) 0 (sym (sound-is s (h .seven)) ∙ e)
+    left-small s (h .clear) ∙ eqb-true (unclaimedFlags s) 0 (sym (sound-is s (h .seven)) ∙ e)
 
 taken : (t : Bool) (x : ℕ) → cond t x 255 ≡ 0 → (t ≡ true) × (x ≡ 0)
 taken true x e = (refl, e)

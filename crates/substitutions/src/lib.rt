@@ -15,7 +15,7 @@ ghost use Prim.Native.Nat.{_≤_, _<_};
 ghost use Rattle.substitutions.specs.Kinds.{numberOf, kindOf, flagged};
 ghost use Rattle.substitutions.specs.Held.{held, sound};
 ghost use Rattle.substitutions.specs.Moves.{refusalOf, refusedWith, insertAnswer, removeAnswer, prependAnswer};
-ghost use Rattle.substitutions.specs.Loops.{leftOver};
+ghost use Rattle.substitutions.specs.Loops.{unclaimedFlags};
 
 // Kinds 1 to 7, in this order.
 pub enum Subs {
@@ -91,8 +91,8 @@ pub fn contains(set: Substitutions, sub: Subs) -> bool
 }
 
 // The flags that no place has taken, or 255 where a place breaks a rule or bit 7 is set.
-fn left_over(set: Substitutions) -> u8
-    ensures { λ r. ⌜ r ≡ leftOver set ⌝ }
+fn unclaimed_flags(set: Substitutions) -> u8
+    ensures { λ r. ⌜ r ≡ unclaimedFlags set ⌝ }
 {
     let flags = set.flags;
     if flags >= 128 {
@@ -111,20 +111,20 @@ fn left_over(set: Substitutions) -> u8
 pub fn is_held(set: Substitutions) -> bool
     ensures { λ r. ⌜ r ≡ held set ⌝ }
 {
-    at_most_one(left_over(set))
+    at_most_one(unclaimed_flags(set))
 }
 
 pub fn is_sound(set: Substitutions) -> bool
     ensures { λ r. ⌜ r ≡ sound set ⌝ }
 {
-    left_over(set) == 0
+    unclaimed_flags(set) == 0
 }
 
 // 10 for a set that is not held, in sheet mode 11 for one that is held but not sound, else 0.
 pub fn refusal(mode: Mode, set: Substitutions) -> usize
     ensures { λ r. ⌜ r ≡ refusalOf mode set ⌝ }
 {
-    let left = left_over(set);
+    let left = unclaimed_flags(set);
     if !at_most_one(left) {
         return refusals::SET_NOT_HELD;
     }

@@ -8,14 +8,14 @@ use Rattle.substitutions.specs.HeldLaws.{held-is}
 use Rattle.substitutions.proofs.is_held.Statement.{statement}
 use Rattle.substitutions.proofs.is_held.Tie as tie
 
-left-over-requires : tie.Need-left-over-requires
-left-over-requires c κs = search needs
+unclaimed-flags-requires : tie.Need-unclaimed-flags-requires
+unclaimed-flags-requires c κs = search needs
 
 at-most-one-requires : tie.Need-at-most-one-requires
 at-most-one-requires c κs = search needs
 
 returns : tie.Need-returns
-returns c = c .at-most-one .ensures ∙ ap few (c .before .left-over .ensures) ∙ sym (held-is (c .before .before .args .set) (search needs))
+returns c = c .at-most-one .ensures ∙ ap few (c .before .unclaimed-flags .ensures) ∙ sym (held-is (c .before .before .args .set) (search needs))
 
 pub is-held-spec : {M : Type 1} → statement M
-is-held-spec = tie.close (tie.spec left-over-requires at-most-one-requires returns)
+is-held-spec = tie.close (tie.spec unclaimed-flags-requires at-most-one-requires returns)

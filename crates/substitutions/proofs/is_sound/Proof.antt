@@ -8,11 +8,11 @@ use Rattle.substitutions.specs.HeldLaws.{sound-is}
 use Rattle.substitutions.proofs.is_sound.Statement.{statement}
 use Rattle.substitutions.proofs.is_sound.Tie as tie
 
-left-over-requires : tie.Need-left-over-requires
-left-over-requires c κs = search needs
+unclaimed-flags-requires : tie.Need-unclaimed-flags-requires
+unclaimed-flags-requires c κs = search needs
 
 returns : tie.Need-returns
-returns c = ap (λ (n : ℕ). eqb n 0) (c .left-over .ensures) ∙ sym (sound-is (c .before .args .set) (search needs))
+returns c = ap (λ (n : ℕ). eqb n 0) (c .unclaimed-flags .ensures) ∙ sym (sound-is (c .before .args .set) (search needs))
 
 pub is-sound-spec : {M : Type 1} → statement M
-is-sound-spec = tie.close (tie.spec left-over-requires returns)
+is-sound-spec = tie.close (tie.spec unclaimed-flags-requires returns)

@@ -9,8 +9,8 @@ use Rattle.substitutions.specs.AnswersLaws.{refusal-10, refusal-port, re
 use Rattle.substitutions.proofs.refusal.Statement.{statement}
 use Rattle.substitutions.proofs.refusal.Tie as tie
 
-left-over-requires : tie.Need-left-over-requires
-left-over-requires c κs = search needs
+unclaimed-flags-requires : tie.Need-unclaimed-flags-requires
+unclaimed-flags-requires c κs = search needs
 
 at-most-one-requires : tie.Need-at-most-one-requires
 at-most-one-requires c κs = search needs
@@ -18,7 +18,7 @@ at-most-one-requires c κs = search needs
 returns : tie.Need-returns
 returns c =
     let a = c .before .before .before .args in
-    refusal-10 (a .set) (search needs) (a .mode) (ap few (sym (c .before .before .left-over .ensures)) ∙ sym (c .before .at-most-one .ensures) ∙ not-true (c .before .at-most-one .result) (c .if1 .taken))
+    refusal-10 (a .set) (search needs) (a .mode) (ap few (sym (c .before .before .unclaimed-flags .ensures)) ∙ sym (c .before .at-most-one .ensures) ∙ not-true (c .before .at-most-one .result) (c .if1 .taken))
 
 enum-told : tie.Need-enum-told
 enum-told c = search needs
@@ -29,23 +29,23 @@ enum-told-2 c = search needs
 returns-2 : tie.Need-returns-2
 returns-2 c =
     let a = c .before .before .before .before .before .args in
-    rw (c .enum-told .given .1) (refusal-port (a .set) (search needs) (ap few (sym (c .before .before .before .before .left-over .ensures)) ∙ sym (c .before .before .before .at-most-one .ensures) ∙ not-false (c .before .before .before .at-most-one .result) (c .before .before .if1 .left)))
+    rw (c .enum-told .given .1) (refusal-port (a .set) (search needs) (ap few (sym (c .before .before .before .before .unclaimed-flags .ensures)) ∙ sym (c .before .before .before .at-most-one .ensures) ∙ not-false (c .before .before .before .at-most-one .result) (c .before .before .if1 .left)))
 
 returns-3 : tie.Need-returns-3
 returns-3 c =
     let a = c .before .before .before .before .before .before .args in
-    rw (c .before .enum-told2 .given .1) (refusal-sheet (a .set) (search needs) (ap few (sym (c .before .before .before .before .before .left-over .ensures)) ∙ sym (c .before .before .before .before .at-most-one .ensures) ∙ not-false (c .before .before .before .before .at-most-one .result) (c .before .before .before .if1 .left)) (sym (c .before .before .before .before .before .left-over .ensures) ∙ c .if2 .taken))
+    rw (c .before .enum-told2 .given .1) (refusal-sheet (a .set) (search needs) (ap few (sym (c .before .before .before .before .before .unclaimed-flags .ensures)) ∙ sym (c .before .before .before .before .at-most-one .ensures) ∙ not-false (c .before .before .before .before .at-most-one .result) (c .before .before .before .if1 .left)) (sym (c .before .before .before .before .before .unclaimed-flags .ensures) ∙ c .if2 .taken))
 
 returns-4 : tie.Need-returns-4
 returns-4 c =
     let a = c .before .before .before .before .before .before .args in
-    rw (c .before .enum-told2 .given .1) (refusal-11 (a .set) (search needs) (ap few (sym (c .before .before .before .before .before .left-over .ensures)) ∙ sym (c .before .before .before .before .at-most-one .ensures) ∙ not-false (c .before .before .before .before .at-most-one .result) (c .before .before .before .if1 .left)) (λ z. c .if2 .left (c .before .before .before .before .before .left-over .ensures ∙ z)))
+    rw (c .before .enum-told2 .given .1) (refusal-11 (a .set) (search needs) (ap few (sym (c .before .before .before .before .before .unclaimed-flags .ensures)) ∙ sym (c .before .before .before .before .at-most-one .ensures) ∙ not-false (c .before .before .before .before .at-most-one .result) (c .before .before .before .if1 .left)) (λ z. c .if2 .left (c .before .before .before .before .before .unclaimed-flags .ensures ∙ z)))
 
 pub refusal-spec : {M : Type 1} → statement M
 refusal-spec =
     tie.close
     (tie.spec
-    left-over-requires
+    unclaimed-flags-requires
     at-most-one-requires
     returns
     enum-told

@@ -22,7 +22,7 @@ use Rattle.subs_names.specs.declared.StepOrGroup.the-variants.{None, Normal, Ve
 use Rattle.customize_subs.specs.declared.Strategy.{Strategy}
 use Rattle.customize_subs.specs.declared.Strategy.the-variants.{Insert}
 use Rattle.customize_subs.specs.Customizing.{kindsOf, entered}
-use Rattle.customize_subs.specs.Steps.{aloneOf}
+use Rattle.customize_subs.specs.Steps.{setOfName}
 
 -- A held set with no flag is empty, since each kind placed has a flag.
 no-flag : (k : ℕ) → flagged k 0 ≡ false
@@ -59,30 +59,30 @@ module _ (s : Substitutions) (h : held s ≡ true) (f : s .flags ≡ 0) where
       ap (λ (ps : List ℕ). set ps (s .flags)) e ∙ ap (set zeros) f
 
 -- The set of a name alone is what its insert makes of the empty set.
-alone-is : (m : Mode) (step : StepOrGroup) → aloneOf m step ≡ entered m Insert (kindsOf m step) empty-set
+set-of-name-is : (m : Mode) (step : StepOrGroup) → setOfName m step ≡ entered m Insert (kindsOf m step) empty-set
 unfolding entered insertOf filled flagged
-alone-is Port None = refl
-alone-is Port Normal = refl
-alone-is Port Verbatim = refl
-alone-is Port SpecialChars = refl
-alone-is Port Callouts = refl
-alone-is Port Quotes = refl
-alone-is Port Attributes = refl
-alone-is Port Replacements = refl
-alone-is Port Macros = refl
-alone-is Port PostReplacements = refl
-alone-is Sheet None = refl
-alone-is Sheet Normal = refl
-alone-is Sheet Verbatim = refl
-alone-is Sheet SpecialChars = refl
-alone-is Sheet Callouts = refl
-alone-is Sheet Quotes = refl
-alone-is Sheet Attributes = refl
-alone-is Sheet Replacements = refl
-alone-is Sheet Macros = refl
-alone-is Sheet PostReplacements = refl
+set-of-name-is Port None = refl
+set-of-name-is Port Normal = refl
+set-of-name-is Port Verbatim = refl
+set-of-name-is Port SpecialChars = refl
+set-of-name-is Port Callouts = refl
+set-of-name-is Port Quotes = refl
+set-of-name-is Port Attributes = refl
+set-of-name-is Port Replacements = refl
+set-of-name-is Port Macros = refl
+set-of-name-is Port PostReplacements = refl
+set-of-name-is Sheet None = refl
+set-of-name-is Sheet Normal = refl
+set-of-name-is Sheet Verbatim = refl
+set-of-name-is Sheet SpecialChars = refl
+set-of-name-is Sheet Callouts = refl
+set-of-name-is Sheet Quotes = refl
+set-of-name-is Sheet Attributes = refl
+set-of-name-is Sheet Replacements = refl
+set-of-name-is Sheet Macros = refl
+set-of-name-is Sheet PostReplacements = refl
 
-pub enter-alone : (m : Mode) (how : Strategy) (step : StepOrGroup) (s r : Substitutions) → held s ≡ true → s .flags ≡ 0 → how ≡ Insert → r ≡ aloneOf m step
+pub enter-into-empty : (m : Mode) (how : Strategy) (step : StepOrGroup) (s r : Substitutions) → held s ≡ true → s .flags ≡ 0 → how ≡ Insert → r ≡ setOfName m step
     → r ≡ entered m how (kindsOf m step) s
-enter-alone m how step s r h f i e =
-    e ∙ alone-is m step ∙ ap (entered m Insert (kindsOf m step)) (sym (flagless-empty s h f)) ∙ ap (λ (x : Strategy). entered m x (kindsOf m step) s) (sym i)
+enter-into-empty m how step s r h f i e =
+    e ∙ set-of-name-is m step ∙ ap (entered m Insert (kindsOf m step)) (sym (flagless-empty s h f)) ∙ ap (λ (x : Strategy). entered m x (kindsOf m step) s) (sym i)

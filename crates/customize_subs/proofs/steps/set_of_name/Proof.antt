@@ -1,8 +1,8 @@
--- `alone` gives the set of the name that was matched. Assumes nothing.
+-- `set_of_name` gives the set of the name that was matched. Assumes nothing.
 use borrow.Author.Needs.{needs}
 use Prim.Native.Nat.{_-_}
-use Rattle.customize_subs.proofs.steps.alone.Statement.{statement}
-use Rattle.customize_subs.proofs.steps.alone.Tie as tie
+use Rattle.customize_subs.proofs.steps.set_of_name.Statement.{statement}
+use Rattle.customize_subs.proofs.steps.set_of_name.Tie as tie
 
 enum-told : tie.Need-enum-told
 enum-told c = search needs
@@ -19,8 +19,8 @@ placed-requires-2 c κs = search needs
 enum-told-3 : tie.Need-enum-told-3
 enum-told-3 c = search needs
 
-verbatim-alone-requires : tie.Need-verbatim-alone-requires
-verbatim-alone-requires c κs = search needs
+set-of-verbatim-requires : tie.Need-set-of-verbatim-requires
+set-of-verbatim-requires c κs = search needs
 
 enum-told-4 : tie.Need-enum-told-4
 enum-told-4 c = search needs
@@ -71,7 +71,7 @@ returns-2 : tie.Need-returns-2
 returns-2 c = rw (c .before .enum-told2 .given .1) (c .placed2 .ensures)
 
 returns-3 : tie.Need-returns-3
-returns-3 c = rw (c .before .enum-told3 .given .1) (c .verbatim-alone .ensures)
+returns-3 c = rw (c .before .enum-told3 .given .1) (c .set-of-verbatim .ensures)
 
 returns-4 : tie.Need-returns-4
 returns-4 c = rw (c .before .enum-told4 .given .1) (c .placed3 .ensures)
@@ -94,8 +94,8 @@ returns-9 c = rw (c .before .enum-told9 .given .1) (c .placed8 .ensures)
 returns-10 : tie.Need-returns-10
 returns-10 c = rw (c .before .enum-told10 .given .1) (c .placed9 .ensures)
 
-pub alone-spec : {M : Type 1} → statement M
-alone-spec =
+pub set-of-name-spec : {M : Type 1} → statement M
+set-of-name-spec =
     tie.close
     (tie.spec
     enum-told
@@ -103,7 +103,7 @@ alone-spec =
     enum-told-2
     placed-requires-2
     enum-told-3
-    verbatim-alone-requires
+    set-of-verbatim-requires
     enum-told-4
     placed-requires-3
     enum-told-5

@@ -1,12 +1,12 @@
--- `left_over` gives the flags without a place: by bit 7, none for the normal set, else by the walk over the places. Assumes nothing.
+-- `unclaimed_flags` gives the flags without a place: by bit 7, none for the normal set, else by the walk over the places. Assumes nothing.
 use borrow.Author.Needs.{needs}
 use Prim.Native.Nat.{_-_}
 use native.Mathlib.Omega.{arith}
 use mathlib.Core.Path.{sym, _∙_}
 use lib.ListN.{set}
 use Rattle.substitutions.specs.AnswersLaws.{left-big, left-small, normal-left}
-use Rattle.substitutions.proofs.left_over.Statement.{statement}
-use Rattle.substitutions.proofs.left_over.Tie as tie
+use Rattle.substitutions.proofs.unclaimed_flags.Statement.{statement}
+use Rattle.substitutions.proofs.unclaimed_flags.Tie as tie
 
 returns : tie.Need-returns
 returns c = left-big (c .before .args .set) (omega arith)
@@ -23,6 +23,6 @@ take-flags-requires c κs = search needs
 returns-3 : tie.Need-returns-3
 returns-3 c = c .take-flags .ensures ∙ left-small (c .before .before .before .before .args .set) (omega arith)
 
-pub left-over-spec : {M : Type 1} → statement M
-left-over-spec =
+pub unclaimed-flags-spec : {M : Type 1} → statement M
+unclaimed-flags-spec =
     tie.close (tie.spec returns is-normal-requires returns-2 take-flags-requires returns-3)

@@ -1,10 +1,10 @@
--- `stays` is the flag that was tested, or its contrary, by the move that was matched. Assumes nothing.
+-- `is_no_op` is the flag that was tested, or its contrary, by the move that was matched. Assumes nothing.
 use borrow.Author.Needs.{needs}
 use Prim.Native.Nat.{_-_}
 use mathlib.Core.Bool.{not}
 use mathlib.Core.Path.{ap}
-use Rattle.customize_subs.proofs.steps.stays.Statement.{statement}
-use Rattle.customize_subs.proofs.steps.stays.Tie as tie
+use Rattle.customize_subs.proofs.steps.is_no_op.Statement.{statement}
+use Rattle.customize_subs.proofs.steps.is_no_op.Tie as tie
 
 contains-requires : tie.Need-contains-requires
 contains-requires c κs = search needs
@@ -27,5 +27,5 @@ returns-2 c = search needs
 returns-3 : tie.Need-returns-3
 returns-3 c = rw (c .enum-told3 .given .1) (ap not (c .before .before .contains .ensures))
 
-pub stays-spec : {M : Type 1} → statement M
-stays-spec = tie.close (tie.spec contains-requires enum-told enum-told-2 enum-told-3 returns returns-2 returns-3)
+pub is-no-op-spec : {M : Type 1} → statement M
+is-no-op-spec = tie.close (tie.spec contains-requires enum-told enum-told-2 enum-told-3 returns returns-2 returns-3)

@@ -5,6 +5,9 @@
 require 'asciidoctor'
 require 'open3'
 
+# Built by `run`, which `differences` has called.
+HARNESS = File.join(__dir__, 'target/compare').freeze
+
 KINDS = %i(specialcharacters quotes attributes replacements macros post_replacements callouts).freeze
 STARTS = { 'N' => KINDS[0..5], 'V' => [KINDS[0], KINDS[6]] }.freeze
 
@@ -127,7 +130,7 @@ end
 # FNV-1a, as in src/explained.rs.
 def digest
   sum = 0xcbf29ce484222325
-  IO.popen([File.join(__dir__, 'run'), '--texts']).each_line(chomp: true) do |claim|
+  IO.popen([HARNESS, '--texts']).each_line(chomp: true) do |claim|
     "#{claim} #{subs claim}\n".each_byte {|byte| sum = ((sum ^ byte) * 0x100000001b3) & 0xffffffffffffffff }
     Asciidoctor::LoggerManager.logger.clear
   end
@@ -136,35 +139,61 @@ end
 
 # ---- every line of up to so many pieces, put beside what the Rust gives for it
 
-# The pieces of a link in the Rust's words: its positional texts, its named attributes, what follows.
-# Asciidoctor takes the backslash of an escaped bracket off before it reads; here it stays in the run.
-def rust_link line, words
+# The Rust's words taken apart: positional texts that are not empty, the id, roles, options (sorted),
+# named attributes (the last of a name), what follows. Asciidoctor takes the backslash of an escaped
+# bracket off before it reads a link; here it stays in the run, which counts as no difference.
+def rust_answer entry, line, words
   return nil if words.start_with?('refused') || words.include?('closed by a token')
-  return [[], {}, line[1..]] if words.start_with? 'no row'
+  return [[], nil, [], [], {}, line[1..]] if words.start_with? 'no row (1 '
   words, rest = words.split '; then `', 2
+  words = words.gsub '\\]', ']' if %w(link inline).include? entry
   rows = words.split '; '
-  texts = rows.grep(/\Apositional `/) {|row| row[12..-2].gsub '\\]', ']' }
-  named = rows.grep(/\A(?:named|role|id|option)/) {|row| row =~ /\A(?:named|role)(?: `(.*?)` =)? `(.*)`\z/ && [$1 || 'role', $2].map {|word| word.gsub '\\]', ']' } }
-  [texts, named.to_h, rest ? rest.chop : '']
+  named = rows.grep(/\Anamed/) {|row| row.match(/`(.*?)` = `(.*)`\z/).captures }
+  id, = rows.grep(/\Aid `/) {|row| row[4..-2] }
+  roles = rows.grep(/\Arole `/) {|row| row[6..-2] }
+  options = rows.grep(/\Aoption `/) {|row| row[8..-2] }
+  [rows.grep(/\Apositional `/) {|row| row[12..-2] }, id, roles, options.uniq.sort, named.to_h, rest ? rest.chop : '']
 end
 
-def asciidoctor_link line
-  Seen.nodes = []
-  html = Asciidoctor.convert("link:t[#{line}", safe: :safe, backend: 'seen', doctype: :inline)
-  return nil if Seen.nodes.empty?
+# What Asciidoctor makes of a line: its attributes, and what follows.
+def asciidoctor_attributes entry, line
+  case entry
+  when 'block'
+    block = Asciidoctor.load("[#{line}\ntext", safe: :safe).blocks[0]
+    [block.attributes, ''] unless block.source.start_with? '['
+  when 'macro'
+    block = Asciidoctor.load("image::t[#{line}", safe: :safe).blocks[0]
+    [block.attributes.reject {|name, _| SET_FOR_IMAGES.include? name }, ''] if block.context == :image
+  else
+    Seen.nodes = []
+    html = Asciidoctor.convert("#{entry == 'link' ? 'link' : 'image'}:t[#{line}", safe: :safe, backend: 'seen', doctype: :inline)
+    return nil if Seen.nodes.empty?
+    text, attrs = Seen.nodes[0]
+    attrs = { 1 => text }.merge attrs unless text.nil? || text == 't' || attrs.keys.any?(Integer)
+    attrs = attrs.reject {|name, value| name == 'role' && value == 'bare' || entry == 'inline' && SET_FOR_IMAGES.include?(name) }
+    [attrs, html.sub(entry == 'link' ? /.*<\/a>/m : /.*<\/span>/m, '')]
+  end
+end
+
+SET_FOR_IMAGES = %w(alt default-alt width height target imagesdir attribute_entries).freeze
+
+# The same pieces as in `rust_answer`.
+def asciidoctor_answer entry, line
+  attrs, rest = asciidoctor_attributes entry, line
+  return nil unless attrs
   plain = ->(word) { word.gsub('&#8217;', "'") }
-  text, attrs = Seen.nodes[0]
   numbered, named = attrs.partition {|name, _| Integer === name }
-  texts = numbered.sort.map(&:last).compact.map(&plain)
-  texts = [plain[text]] if numbered.empty? && text != 't'
-  named = named.reject {|name, value| name == 'role' && value == 'bare' }.to_h {|name, value| [name, plain[value]] }
-  [texts, named, html.sub(/.*<\/a>/m, '').gsub('&#8217;', "'")]
+  options, named = named.partition {|name, _| name.end_with? '-option' }
+  named = named.to_h {|name, value| [name, value && plain[value]] }
+  id, role = (named.delete 'id'), (named.delete 'role')
+  named.delete 'style'
+  options = options.map {|name, _| name.delete_suffix '-option' }
+  [numbered.sort.map(&:last).compact.map(&plain), id, (role || '').split, options.sort, named, plain[rest]]
 end
 
 # The classes of docs/DIFFERENCES.md that a link's line belongs to, by its text alone.
 def link_classes line
-  first = line.index(/(?<!\\)\]/) || line.size
-  inside = line[0...first]
+  inside = line[0...(line.index(/(?<!\\)\]/) || line.size)]
   classes = []
   classes << 'L1' if inside.size > 1 && inside[0] == inside[-1] && %w(" ').include?(inside[0])
   classes << 'L3' if line =~ /(?<!\\)\[.*\]./
@@ -177,16 +206,69 @@ def link_classes line
   classes
 end
 
-# Of every such line: how many differ, and whether each of these is of a class.
+# The same for the list of a block macro. A value in quotes that holds no quote, backslash or bracket
+# is read alike, and stands as Q.
+def macro_classes line
+  inside = line.chop
+  bare = without_quoted inside
+  names = bare.split(',').filter_map {|attribute| attribute[/\A(.*?)=/, 1] }.map(&:strip)
+  classes = []
+  classes << 'B1 to B6, B14' if bare =~ /["']/
+  classes << 'B7 to B9' if inside.include? ']'
+  classes << 'B19' if names.count('id') > 1
+  classes << 'B21' if inside =~ /id\s*=\s*(?:""|'')?\s*(?:,|\z)/
+  classes << 'B22' if names.count('role') > 1
+  classes << 'B23' if inside =~ /opts="[^"]* [^"]*"/
+  classes << 'B24' if inside.include? 'None'
+  classes << 'B25' if names.any? {|name| name !~ /\A\w[\w-]*\z/ }
+  classes << 'B26' if inside.include? '=='
+  classes
+end
+
+def without_quoted inside
+  inside.gsub(/(?<=\A|,|=)(\s*)("[^"'\\\]]*"|'[^"'\\\]]*')(?=\s*(?:,|\z))/, '\1Q')
+end
+
+# The same for an inline macro, which ends at the first bracket that is not escaped.
+def inline_classes line
+  ends = line.index(/(?<!\\)\]/) || line.size
+  inside = line[0...ends]
+  classes = (macro_classes "#{inside}]") - ['B7 to B9']
+  classes << 'I1' if inside.include?('\\]') && inside =~ /[,=]/
+  classes << 'L6' if ends == line.size
+  classes
+end
+
+# The same for a line above a block, which has shorthand too.
+def block_classes line
+  inside = line.chop
+  first, *later = (without_quoted inside).split(',', -1)
+  first = first.to_s
+  classes = macro_classes line
+  classes << 'B11' if later.any? {|attribute| attribute =~ /[.#%]/ }
+  classes << 'B12' if first =~ /[.#%]/ && first.strip =~ /\s/
+  classes << 'B13' if inside =~ /\A["'].*[.#%]/
+  classes << 'B15, B16' if first =~ /[.#%][.#%]/
+  classes << 'B19, B20' if first.count('#') > 1 || first.include?('#') && inside =~ /id\s*=/
+  classes << 'B22' if first.include?('.') && inside =~ /role\s*=/
+  classes << 'B32, B34' if inside !~ /\A[\w.#%{,"']/ && !inside.empty?
+  classes << 'B33' if inside.end_with? '\\'
+  classes
+end
+
+# Of every such line: how many differ, whether each of these is of a class, and how many are of none.
 def searched text
-  _, longest, *pieces = text.split(/ /)
+  entry, longest, *pieces = text.split(/ /)
   pieces = pieces.map {|piece| piece.tr '␣', ' ' }
   lines = (0..longest.to_i).flat_map {|size| size == 0 ? [''] : pieces.product(*[pieces] * (size - 1)).map(&:join) }.map {|line| "#{line}]" }
-  rust, = Open3.capture2 File.join(__dir__, 'run'), '--lines', 'link', stdin_data: lines.join("\n")
-  differ = lines.zip(rust.lines chomp: true).reject {|line, words| (rust_link line, words) == (asciidoctor_link line) }
-  none = differ.map(&:first).select {|line| (link_classes line).empty? }
+  rust, = Open3.capture2 HARNESS, '--lines', entry, stdin_data: lines.join("\n")
+  differ = lines.zip(rust.lines chomp: true).reject {|line, words| (rust_answer entry, line, words) == (asciidoctor_answer entry, line) }
+  classes = method "#{entry}_classes"
+  plain = lines.select {|line| classes.(line).empty? }
+  none = differ.map(&:first) & plain
   Asciidoctor::LoggerManager.logger.clear
-  "#{differ.size} differ, #{none.empty? ? 'each of a class' : "of no class: #{none.first(9).join '  '}"}"
+  return "of no class and different: #{none.size}, #{none.first(12).join '  '}" unless none.empty?
+  "#{differ.size} differ, each of a class; #{plain.size} lines are of none"
 end
 
 def asciidoctor entry, text

@@ -71,13 +71,3 @@ module _ (kinds : List ℕ) (from to : ℕ) (r : Run) (w : Part all kinds from t
 
     pub plain-run : ((text pairs : List ℕ) → r ≡ runOf (kept (lineOf kinds text pairs) from to)) → (text pairs : List ℕ) → r ≡ runOf (unquote (kept (lineOf kinds text pairs) from to))
     plain-run v text pairs = v text pairs ∙ ap runOf (plain text pairs)
-
--- ---- a negated test
-
-pub not-true : (b : Bool) → not b ≡ true → b ≡ false
-not-true true e = sym e
-not-true false e = refl
-
-pub not-false : (b : Bool) → not b ≡ false → b ≡ true
-not-false true e = refl
-not-false false e = sym e

@@ -6,7 +6,7 @@ use mathlib.Core.Path.{_≡_, refl, sym, subst}
 use mathlib.Core.List.{List, [], _∷_}
 use lib.Dec.{eqb, ltb}
 use lib.ListN.{length, getD}
-use borrow.Author.Tests.{ne-eqb, eqb-true, eqb-false, le-ltb, ltb-true, ltb-false}
+use borrow.Author.Tests.{not-false, ne-eqb, eqb-true, eqb-false, le-ltb, ltb-true, ltb-false}
 use Rattle.refusals.specs.Refusals.{noTokens, tooManyTokens, textTooLong, pairsNotTwo, kindTooLarge, pairsNotInOrder}
 use Rattle.token.specs.Kind.{largest, closeBracket, openBracket}
 use Rattle.token.specs.Line.{lineOf, mostTokens, mostBytes, someOver, misplaced, Over, Placed, check, refusal}
@@ -95,10 +95,6 @@ check-none : (t : Bool) (n rest : ℕ) → 0 < n → check t n rest ≡ 0 → (t
 check-none true n rest h e = absurd (omega arith)
 check-none false n rest h e = (refl, e)
 
-not-no : (b : Bool) → not b ≡ false → b ≡ true
-not-no true e = refl
-not-no false e = sym e
-
 pub lent : (most : ℕ) (kinds text pairs : List ℕ) → most ≤ mostTokens → refusal most (lineOf kinds text pairs) ≡ 0 → Lent kinds text pairs
 unfolding refusal
 lent most kinds text pairs few e =
@@ -108,7 +104,7 @@ lent most kinds text pairs few e =
     let c4 = check-none (not (eqb (length pairs) (2 * length kinds))) pairsNotTwo _ (omega arith) (c3 .1) in
     let c5 = check-none (someOver kinds) kindTooLarge _ (omega arith) (c4 .1) in
     let c6 = check-none (misplaced (length text) 0 pairs) pairsNotInOrder 0 (omega arith) (c5 .1) in
-    let paired : length pairs ≡ 2 * length kinds = eqb-true (length pairs) (2 * length kinds) (not-no (eqb (length pairs) (2 * length kinds)) (c4 .0)) in
+    let paired : length pairs ≡ 2 * length kinds = eqb-true (length pairs) (2 * length kinds) (not-false (eqb (length pairs) (2 * length kinds)) (c4 .0)) in
     let none : length kinds ≡ 0 → ⊥ = eqb-false (length kinds) 0 (c1 .0) in
     let n : length kinds ≤ most = ltb-false most (length kinds) (c2 .0) in
     record {

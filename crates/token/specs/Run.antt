@@ -139,10 +139,9 @@ unfoldable pub firstPlace : ℕ → List Token → ℕ
 firstPlace end [] = end
 firstPlace end (t ∷ ts) = t .place
 
--- the place past the last of some tokens, or `start` where there is none
-unfoldable pub pastLast : ℕ → List Token → ℕ
-pastLast start [] = start
-pastLast start (t ∷ ts) = suc (lastOf t ts .place)
+-- the place of the first of a kind, or `end` where there is none
+abbrev pub placeOfKind : (kind end : ℕ) → List Token → ℕ
+placeOfKind kind end ts = firstPlace end (onward (ofKind kind) ts)
 
 -- the run of the places from `from` up to and without `to`, where the first and the last are kept
 abbrev pub between : (from to : ℕ) → Run

@@ -6,7 +6,7 @@ ghost use Prim.Native.Nat.{ℕ, _+_, _-_, _≤_, _<_};
 ghost use lib.ListN.{length};
 ghost use Rattle.token.specs.Kind.{attrRef};
 ghost use Rattle.token.specs.Line.{lineOf};
-ghost use Rattle.token.specs.Run.{ofKind, kept, onward, trimStart, trimEnd, trim, quoted, unquote, runOf, inRun, firstPlace, between};
+ghost use Rattle.token.specs.Run.{ofKind, kept, trimStart, trimEnd, trim, quoted, unquote, runOf, inRun, firstPlace, placeOfKind, between};
 ghost use Rattle.token.specs.Places.{Ends, all, StartsAt, EndsAt, Part, FoundAt};
 use super::Run;
 use super::TokenPlace;
@@ -146,7 +146,7 @@ pub fn unquote(kinds: &[u8], from: TokenPlace, to: TokenPlace) -> Run
 // The place of the first kept token of a kind, or `to`.
 pub fn find_kind(kinds: &[u8], kind: u8, from: TokenPlace, to: TokenPlace) -> TokenPlace
     requires { ⌜ (from .0 ≤ to .0) × (to .0 ≤ length (now kinds)) × (kind ≡ attrRef → ⊥) ⌝ }
-    ensures place { λ r. ⌜ ((text pairs : List ℕ) → r .0 ≡ firstPlace (to .0) (onward (ofKind kind) (kept (lineOf (now (kinds .entry)) text pairs) (from .0) (to .0)))) ⌝ }
+    ensures place { λ r. ⌜ ((text pairs : List ℕ) → r .0 ≡ placeOfKind kind (to .0) (kept (lineOf (now (kinds .entry)) text pairs) (from .0) (to .0))) ⌝ }
     ensures found { λ r. ⌜ FoundAt (ofKind kind) (now (kinds .entry)) (from .0) (to .0) (r .0) ⌝ }
 {
     let end = to.0;

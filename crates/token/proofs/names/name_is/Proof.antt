@@ -4,7 +4,7 @@ use native.Mathlib.Omega.{arith}
 use mathlib.Core.Path.{sym, _∙_}
 use Rattle.token.specs.Line.{tokenAt}
 use Rattle.token.proofs.Naming.{Naming, naming-start, naming-skip, naming-space, naming-differs, naming-on, naming-end}
-use Rattle.token.proofs.Quotes.{not-true, not-false}
+use borrow.Author.Tests.{not-true, not-false}
 use Rattle.token.specs.NamesLaws.{lexeme-length}
 use Rattle.token.proofs.names.name_is.Statement.{statement}
 use Rattle.token.proofs.names.name_is.Tie as tie

@@ -3,7 +3,8 @@ use borrow.Author.Needs.{needs}
 use Prim.Native.Nat.{_-_}
 use native.Mathlib.Omega.{arith}
 use mathlib.Core.Path.{sym, _∙_}
-use Rattle.token.proofs.Quotes.{quotes-room, unquoted-part, unquoted-run, plain-part, plain-run, not-true, not-false}
+use borrow.Author.Tests.{not-true, not-false}
+use Rattle.token.proofs.Quotes.{quotes-room, unquoted-part, unquoted-run, plain-part, plain-run}
 use Rattle.token.proofs.runs.unquote.Statement.{statement}
 use Rattle.token.proofs.runs.unquote.Tie as tie
 

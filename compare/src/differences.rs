@@ -13,37 +13,36 @@
 //!   lines                        an entry, a length and pieces: every line of up to so many pieces
 //!                                and a closing bracket; ␣ is a blank. Recorded by a digest
 
-use std::collections::HashMap;
-
 use crate::check::{Worker, expected_set};
 use crate::explained::{self, Digest, written};
 use crate::library::Library;
 use crate::lines::LineBuf;
 use crate::model::ROW;
 use crate::rust_side::{self, Entry, Mode};
+use crate::tables;
 use crate::words;
 
 pub const RECORD: &str = "differences.txt";
 pub const PAGE: &str = "../docs/DIFFERENCES.md";
 
 const INDENT: &str = "    ";
-const ASCIIDOCTOR: &str = "Asciidoctor";
+pub const ASCIIDOCTOR: &str = "Asciidoctor";
 
-struct Claim<'r> {
+pub struct Claim<'r> {
     head: &'r str,
-    class: &'r str,
-    entry: &'r str,
-    text: &'r str,
+    pub class: &'r str,
+    pub entry: &'r str,
+    pub text: &'r str,
     sides: Vec<(&'r str, &'r str)>,
 }
 
 impl<'r> Claim<'r> {
-    fn side(&self, name: &str) -> Option<&'r str> {
+    pub fn side(&self, name: &str) -> Option<&'r str> {
         self.sides.iter().find(|(who, _)| *who == name).map(|(_, words)| *words)
     }
 
     /// Asciidoctor's answer without its warnings.
-    fn asciidoctor(&self) -> &'r str {
+    pub fn asciidoctor(&self) -> &'r str {
         self.side(ASCIIDOCTOR).and_then(|words| words.split(" (").next()).unwrap_or_default()
     }
 }
@@ -188,117 +187,5 @@ pub fn check_page(record: &str) -> Result<(usize, usize), String> {
         }
     }
     let text = std::fs::read_to_string(PAGE).map_err(|e| format!("cannot read {PAGE}: {e}"))?;
-    Ok((claims.len(), page(&text, &claims)?))
-}
-
-/// A line of the page as the record writes it: a tab written out, and nothing before a link's
-/// bracket.
-fn plain(span: &str) -> String {
-    span.strip_prefix("link:t[").unwrap_or(span).replace('⇥', "<TAB>")
-}
-
-/// Every line and every subs text in a table of the page is a claim, the sets in the columns port,
-/// sheet and Asciidoctor are those recorded, so are those of a block, and so is whatever stands
-/// between backticks in the columns of the Rust and of Asciidoctor. Gives how many table rows.
-fn page(page: &str, claims: &[Claim<'_>]) -> Result<usize, String> {
-    let mut by_text: HashMap<String, Vec<&Claim<'_>>> = HashMap::new();
-    for claim in claims {
-        let text = if claim.entry == "on" {
-            claim.text.split_once(' ').map_or("", |(_, line)| line)
-        } else {
-            claim.text
-        };
-        let text = without_kinds(text);
-        by_text.entry(text).or_default().push(claim);
-    }
-    let mut columns: Vec<&str> = Vec::new();
-    let mut class = String::new();
-    let mut rows = 0;
-    for line in page.lines() {
-        let Some(row) = line.strip_prefix('|').and_then(|line| line.strip_suffix('|')) else {
-            columns.clear();
-            continue;
-        };
-        let cells: Vec<&str> = row.split('|').map(str::trim).collect();
-        if columns.is_empty() {
-            columns = cells;
-            continue;
-        }
-        if cells[0].starts_with("---") {
-            continue;
-        }
-        let cell = |name: &str| columns.iter().position(|c| *c == name).and_then(|at| cells.get(at)).copied();
-        if let Some(first) = cells[0].split(' ').next().filter(|first| !first.is_empty()) {
-            class = first.to_string();
-        }
-        let missing = |what: &str| format!("{what} stands on the page and in no claim of the record: {line}");
-        if let Some(text) = cell("text") {
-            let found = by_text.get(&plain(text)).and_then(|found| found.first()).ok_or(missing(text))?;
-            let recorded = [
-                ("port", found.side("Rust")),
-                ("sheet", found.side("sheet")),
-                (ASCIIDOCTOR, Some(found.asciidoctor())),
-            ];
-            for (column, words) in recorded {
-                if cell(column) != words {
-                    return Err(format!("the record has {words:?} in the column {column}: {line}"));
-                }
-            }
-            if found.class != class {
-                return Err(format!("the class of {text} is {} in the record: {line}", found.class));
-            }
-            rows += 1;
-        } else if let Some(lines) = cell("line") {
-            let mut found: Vec<&Claim<'_>> = Vec::new();
-            for span in spans(lines) {
-                let written = plain(span);
-                let bare = written.strip_prefix('[').unwrap_or(&written);
-                let claims =
-                    [written.as_str(), bare].into_iter().filter_map(|text| by_text.get(text)).flatten();
-                let before = found.len();
-                found.extend(claims.copied());
-                if found.len() == before {
-                    return Err(missing(span));
-                }
-            }
-            if let Some(block) = cell("block") {
-                let name = block.replace(", ", "-").replace(' ', "-");
-                let on =
-                    |claim: &&&Claim<'_>| claim.entry == "on" && claim.text.starts_with(&format!("{name} "));
-                let recorded = found.iter().find(on).ok_or(missing(lines))?.asciidoctor();
-                if cell(ASCIIDOCTOR) != Some(recorded) {
-                    return Err(format!("the record has {recorded}: {line}"));
-                }
-            }
-            for (column, who) in [("the Rust", "Rust"), (ASCIIDOCTOR, ASCIIDOCTOR)] {
-                let sides = || found.iter().flat_map(|claim| &claim.sides).filter(|(name, _)| *name == who);
-                for span in spans(cell(column).unwrap_or_default()) {
-                    let quoted = format!("`{}`", span.replace('⇥', "\t"));
-                    if !sides().any(|(_, words)| words.contains(&quoted)) {
-                        return Err(format!("`{span}` is not what is recorded of {who}: {line}"));
-                    }
-                }
-            }
-            rows += 1;
-        }
-    }
-    Ok(rows)
-}
-
-/// What stands between backticks.
-fn spans(cell: &str) -> impl Iterator<Item = &str> {
-    cell.split('`').skip(1).step_by(2)
-}
-
-/// `⟨Kind text⟩` is its text.
-fn without_kinds(text: &str) -> String {
-    let mut out = String::new();
-    let mut rest = text;
-    while let Some((before, behind)) = rest.split_once('⟨') {
-        out.push_str(before);
-        let (inside, after) = behind.split_once('⟩').unwrap_or((behind, ""));
-        out.push_str(inside.split_once(' ').map_or(inside, |(_, text)| text));
-        rest = after;
-    }
-    out + rest
+    Ok((claims.len(), tables::check(&text, &claims)?))
 }

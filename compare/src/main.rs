@@ -22,6 +22,7 @@ mod self_test;
 mod sources;
 #[allow(dead_code)]
 mod stand_in;
+mod tables;
 #[allow(dead_code)]
 mod unreached;
 mod words;

@@ -3,7 +3,7 @@ ghost use mathlib.Core.Path.{_≡_};
 ghost use mathlib.Core.List.{List};
 ghost use mathlib.Core.Bool.{Bool};
 ghost use Prim.Native.Nat.{ℕ, _+_, _-_, _≤_, _<_};
-ghost use lib.ListN.{length};
+ghost use lib.ListN.{length, getD};
 ghost use Rattle.token.specs.Kind.{attrRef};
 ghost use Rattle.token.specs.Line.{lineOf};
 ghost use Rattle.token.specs.Run.{ofKind, kept, trimStart, trimEnd, trim, quoted, unquote, runOf, inRun, firstPlace, placeOfKind, between};
@@ -76,6 +76,22 @@ fn run_between(from: TokenPlace, to: TokenPlace) -> Run
     }
 }
 
+// The place past the last token kept, or `from` where there is none, of places of which the first is kept. Where the last place holds a kept token, as it
+// does unless an AttrRef ends the run, it is the place past that one; else the run is read.
+fn run_end(kinds: &[u8], from: TokenPlace, to: TokenPlace) -> TokenPlace
+    requires { ⌜ (from .0 ≤ to .0) × (to .0 ≤ length (now kinds)) × (from .0 < to .0 → getD (now kinds) (from .0) 0 ≡ attrRef → ⊥) ⌝ }
+    ensures { λ r. ⌜ EndsAt all (now (kinds .entry)) (from .0) (to .0) (r .0) ⌝ }
+{
+    let end = to.0;
+    if end <= from.0 {
+        return to;
+    }
+    if kinds[end - 1] != ATTR_REF {
+        return to;
+    }
+    past_last_kept(kinds, from, to)
+}
+
 // The run of the tokens kept from `from` up to `to`.
 pub fn run_of(kinds: &[u8], from: TokenPlace, to: TokenPlace) -> Run
     requires { ⌜ (from .0 ≤ to .0) × (to .0 ≤ length (now kinds)) ⌝ }
@@ -83,7 +99,7 @@ pub fn run_of(kinds: &[u8], from: TokenPlace, to: TokenPlace) -> Run
     ensures part { λ r. ⌜ Part all (now (kinds .entry)) (from .0) (to .0) r ⌝ }
 {
     let start = first_kept(kinds, from, to);
-    let end = past_last_kept(kinds, start, to);
+    let end = run_end(kinds, start, to);
     run_between(start, end)
 }
 

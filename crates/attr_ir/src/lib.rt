@@ -1,4 +1,6 @@
 // What an attribute is: its reading decided from the left, and its runs.
+#![tactic(auto)]
+
 ghost use Rattle.std.specs.Prelude.{◌≡◌, ◌&&◌, not, List, ℕ, ◌≤◌, length};
 ghost use Rattle.token.specs.Line.{line_of};
 ghost use Rattle.token.specs.Lent.{Lent, line};

@@ -1,6 +1,8 @@
 // The entries: the four readings of an attribute list, from a line of tokens to rows, and whether a line is a block attribute list (document 01, "Lists
 // and links"). What an entry answers and leaves is `Outcome` (specs/Outcome.antt); answers and buffers are defined in specs/Reading.antt, what holds of
 // every line that is read as a list in specs/ReadAsList.antt.
+#![tactic(auto)]
+
 ghost use Rattle.std.specs.Prelude.{◌≡◌};
 ghost use Rattle.token.specs.Lent.{line};
 ghost use Rattle.token.specs.Line.{most_tokens};

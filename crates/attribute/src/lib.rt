@@ -1,4 +1,6 @@
 // One attribute: its rows.
+#![tactic(auto)]
+
 ghost use Rattle.std.specs.Prelude.{◌+◌, ◌*◌, ◌-◌, ◌≤◌, ◌<◌, length};
 ghost use Rattle.token.specs.Lent.{Lent, line};
 ghost use Rattle.row.specs.Row.{width};

@@ -1,4 +1,6 @@
 // Where an attribute list closes, and whether a link's brackets hold a list or text (document 01, "Lists and links").
+#![tactic(auto)]
+
 mod bracket;
 mod look;
 

@@ -1,4 +1,6 @@
 // What the text of a subs attribute makes of a substitution set, in port and in sheet mode.
+#![tactic(auto)]
+
 mod parts;
 mod steps;
 

@@ -1,4 +1,6 @@
 // Delimiting: which commas of a line divide it into attributes. The rule stands in specs/Delimit.antt, what holds of every line in specs/Divide.antt.
+#![tactic(auto)]
+
 ghost use Rattle.std.specs.Prelude.{◌≤◌, length};
 ghost use Rattle.delimiters.specs.Outcome.{Outcome};
 

@@ -1,4 +1,6 @@
 // The three moves on a set that is lent: the set is left altered, and the number of the refusal is returned. Each is a thin call of the move by value.
+#![tactic(auto)]
+
 ghost use Rattle.std.specs.Prelude.{◌≡◌};
 ghost use Rattle.substitutions.specs.Moves.{insert_answer, remove_answer, prepend_answer};
 

@@ -1,5 +1,7 @@
 // Runs the three moves by value and on loan, in both modes, and counts the answers that differ: every held set with every kind, and sets that are
 // not held with one kind each.
+#![tactic(auto)]
+
 ghost use Rattle.std.specs.Prelude.{◌≡◌, ◌≤◌};
 ghost use Rattle.substitutions.specs.Moves.{insert_answer, remove_answer, prepend_answer};
 

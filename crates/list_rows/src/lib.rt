@@ -1,4 +1,6 @@
 // The attributes of a list: their rows.
+#![tactic(auto)]
+
 ghost use Rattle.std.specs.Prelude.{◌≡◌, ◌&&◌, ◌+◌, ◌*◌, ◌-◌, ◌≤◌, ◌<◌, eqb, length, take};
 ghost use Rattle.token.specs.Kind.{word, kind_at};
 ghost use Rattle.token.specs.Lent.{line, Lent};

@@ -1,4 +1,6 @@
 // The rows of what an attribute holds: one row, the groups of options and roles, and shorthand.
+#![tactic(auto)]
+
 pub mod groups;
 pub mod one_row;
 pub mod shorthand;

@@ -1,4 +1,6 @@
 // Reads lines of tokens (docs/FORMAT.md) from the file that its argument names, and prints what the reader says of each.
+#![tactic(auto)]
+
 mod lines;
 mod list;
 mod scan;

@@ -1,5 +1,7 @@
 // The numbers with which a call is refused: the README's table, in the order of its rows. A caller sees these numbers in every answer, so each is
 // pinned by a contract.
+#![tactic(auto)]
+
 ghost use Rattle.std.specs.Prelude.{◌≡◌};
 ghost use Rattle.refusals.specs.Refusals.{numbers};
 

@@ -1,6 +1,8 @@
 // Replays recorded calls and writes what each answers. The calls are in the file `stdin`, one a
 // line, as decimal numbers; the answers that the Rust gave to them are in `stdout`. Both files
 // are made by `compare/record`, which says what each number means.
+#![tactic(auto)]
+
 mod input;
 mod lists;
 mod sets;

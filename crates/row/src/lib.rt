@@ -1,4 +1,6 @@
 // Rows, the room for them, and how one is written to the lent buffer.
+#![tactic(auto)]
+
 ghost use Rattle.std.specs.Prelude.{◌≡◌, ◌+◌, ◌*◌, ◌≤◌, length};
 ghost use Rattle.std.proofs.lemmas.List.Edits.{sets};
 ghost use Rattle.row.specs.Row.{width, numbers, one_run, room_for, Fits};

@@ -1,4 +1,6 @@
 // Kept tokens and runs: code on places of the kinds. AttrRef tokens are stepped over.
+#![tactic(auto)]
+
 ghost use Rattle.std.specs.Prelude.{◌≡◌, List, ℕ, ◌+◌, ◌-◌, ◌≤◌, ◌<◌, length, get_or};
 ghost use Rattle.token.specs.Kind.{attr_ref};
 ghost use Rattle.token.specs.Line.{line_of};

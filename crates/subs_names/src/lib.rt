@@ -1,4 +1,6 @@
 // The names of the kinds and of the groups of kinds that a subs text may hold, looked up byte for byte.
+#![tactic(auto)]
+
 ghost use Rattle.std.specs.Prelude.{◌≡◌, ◌≤◌, length};
 ghost use Rattle.subs_names.specs.Names.{same, lookup_of};
 ghost use Rattle.subs_names.specs.KindNames.{name_of, padded, copied};

@@ -1,4 +1,6 @@
 // A substitution set: seven places and a flag byte, by value, and its three moves in port and in sheet mode.
+#![tactic(auto)]
+
 mod flags;
 pub mod has;
 mod places;

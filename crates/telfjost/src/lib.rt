@@ -1,4 +1,6 @@
 // What C and Rust link. Each function restates, in its own numbers, the contract of what it calls.
+#![tactic(auto)]
+
 mod lists;
 mod sets;
 mod subs;

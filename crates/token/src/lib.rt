@@ -1,4 +1,6 @@
 // A lent line of tokens: their kinds, places and lexemes, and the checks of the line.
+#![tactic(auto)]
+
 pub mod kind;
 pub mod line;
 

@@ -16,8 +16,8 @@ use Rattle.token.specs.Line.{Token, line_of, token_at}
 use Rattle.token.specs.Lent.{Lent}
 use Rattle.runs.specs.Run.{kept, of_one, is_equals}
 use Rattle.runs.specs.Names.{same_bytes}
-use Rattle.runs.specs.NamesLaws.{one-is, lexeme-one, lexeme-length, one_byte, not-one}
-use Rattle.runs.specs.KeptLaws.{kind-is, is-kind, not-kind, kept-none, kept-first}
+use Rattle.runs.proofs.NamesLaws.{one-is, lexeme-one, lexeme-length, one_byte, not-one}
+use Rattle.runs.proofs.KeptLaws.{kind-is, is-kind, not-kind, kept-none, kept-first}
 use Rattle.runs.specs.Places.{all, StartsAt}
 use Rattle.attr_ir.specs.Look.{is_symbol, any, next_equals, symbol_sight, sight, decided, look}
 

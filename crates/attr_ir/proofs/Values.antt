@@ -12,7 +12,7 @@ use Rattle.token.specs.Line.{Line, Token, line_of, token_at}
 use Rattle.runs.specs.Run.{kept, is_whitespace, is_equals, without, unquote, run_of, in_run}
 use Rattle.runs.specs.Names.{bytes, same_bytes}
 use Rattle.runs.specs.Places.{FoundIn, all, StartsAt, Part, PartMut, FoundAt}
-use Rattle.runs.specs.KeptLaws.{is-kind, not-kind, kept-none, kept-first}
+use Rattle.runs.proofs.KeptLaws.{is-kind, not-kind, kept-none, kept-first}
 use Rattle.attr_ir.specs.declared.Name.{Name}
 use Rattle.attr_ir.specs.declared.Name.TheVariants.{Options, Role, Id, Plain, Other}
 use Rattle.attr_ir.specs.declared.AttrIr.{AttrIr}

@@ -15,7 +15,7 @@ mod look;
 mod naming;
 
 // How an attribute is read; a positional has its note.
-#[derive(Drop)]
+#[derive(Clone, Copy)]
 pub enum Reading {
     Shorthand,
     Positional(bool),
@@ -23,14 +23,14 @@ pub enum Reading {
 }
 
 // What one token decides, looked at from the left: how the attribute is read, or nothing yet, with the note so far.
-#[derive(Drop)]
+#[derive(Clone, Copy)]
 pub enum Sight {
     Is(Reading),
     On(bool),
 }
 
 // What a name asks for; `Plain` is `subs` or `cols`.
-#[derive(Drop)]
+#[derive(Clone, Copy)]
 pub enum Name {
     Options,
     Role,
@@ -40,7 +40,7 @@ pub enum Name {
 }
 
 // An attribute by its runs. `cut` says whether a positional is to be cut.
-#[derive(Drop)]
+#[derive(Clone, Copy)]
 pub enum AttrIr {
     Positional { run: Run, cut: bool },
     Named { name: Run, value: Run },

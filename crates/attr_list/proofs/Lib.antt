@@ -1,1 +1,6 @@
+pub mod Laws
+pub mod ReadAsListLaws
+pub mod OneAnswerLaws
+pub mod RefusalLaws
+pub mod BlockLaws
 pub mod Readings

@@ -13,33 +13,33 @@ use Rattle.refusals.specs.Refusals.{rows_too_short, no_closing_bracket}
 use Rattle.token.specs.Kind.{close_bracket, kind_at}
 use Rattle.token.specs.Line.{Line, line_of, refusal, most_tokens}
 use Rattle.token.specs.Lent.{Lent}
-use Rattle.token.specs.LineLaws.{lent}
+use Rattle.token.proofs.LineLaws.{lent}
 use Rattle.runs.specs.Run.{kept, unquote, run_of}
 use Rattle.runs.specs.Places.{Part}
 use Rattle.row.specs.declared.Row.{Row}
 use Rattle.row.specs.Row.{width, numbers, all_numbers, one_run, positional, room_for, with_rows, Wrote, Fits}
-use Rattle.row.specs.Laws.{wrote_one}
+use Rattle.row.proofs.Laws.{wrote_one}
 use Rattle.delimiters.specs.Delimit.{dividing, parted}
 use Rattle.delimiters.specs.Divide.{Ascending}
-use Rattle.delimiters.specs.CountLaws.{bracket-past}
-use Rattle.delimiters.specs.DivideLaws.{dividing-ascend-to, attributes-some}
+use Rattle.delimiters.proofs.CountLaws.{bracket-past}
+use Rattle.delimiters.proofs.DivideLaws.{dividing-ascend-to, attributes-some}
 use Rattle.closing.specs.declared.Closing.{Closing}
 use Rattle.closing.specs.declared.Closing.TheVariants.{At, Nowhere}
 use Rattle.closing.specs.declared.LinkMacro.{LinkMacro}
 use Rattle.closing.specs.declared.LinkMacro.TheVariants.{AsText}
 use Rattle.closing.specs.Link.{holds_of, link_macro}
 use Rattle.closing.specs.Closing.{numbers_of, closing}
-use Rattle.closing.specs.Laws.{same_case}
-use Rattle.closing.specs.ClosingLaws.{IsBracket, Closed, closing-closes, closes-bracket}
-use Rattle.closing.specs.LinkLaws.{Within, link-within, same-link}
+use Rattle.closing.proofs.Laws.{same_case}
+use Rattle.closing.proofs.ClosingLaws.{IsBracket, Closed, closing-closes, closes-bracket}
+use Rattle.closing.proofs.LinkLaws.{Within, link-within, same-link}
 use Rattle.attr_list.specs.Entry.{Entry, Link}
 use Rattle.attr_list.specs.declared.Answer.{Answer}
 use Rattle.attr_list.specs.declared.Answer.TheVariants.{Refused, Read}
 use Rattle.list_rows.specs.ListRows.{parted_rows, list_rows, rows_from}
 use Rattle.attr_list.specs.Reading.{Reading, refused, gives, answer_of, Gives, list_to, list_of, text_to, link_to, read_by, unless_closed, lent_refusal, unless_refused, reading}
 use Rattle.attr_list.specs.Outcome.{Outcome, WhenReadAsList}
-use Rattle.attr_list.specs.Laws.{bracket-some}
-use Rattle.attr_list.specs.ReadAsListLaws.{Accepts, accepts, read-as-list}
+use Rattle.attr_list.proofs.Laws.{bracket-some}
+use Rattle.attr_list.proofs.ReadAsListLaws.{Accepts, accepts, read-as-list}
 
 pub gives_as : (given : List ℕ) (r s : Reading) (a : Answer) (left : List ℕ) → Gives given r a left → r ≡ s → Gives given s a left
 gives_as given r s a left w e = subst (λ (x : Reading). Gives given x a left) e w

@@ -3,8 +3,3 @@ pub mod Reading
 pub mod ReadAsList
 pub mod Outcome
 pub mod Block
-pub mod Laws
-pub mod ReadAsListLaws
-pub mod OneAnswerLaws
-pub mod RefusalLaws
-pub mod BlockLaws

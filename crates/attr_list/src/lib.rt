@@ -18,14 +18,14 @@ mod block;
 mod read;
 
 // What an entry answers: the number with which a call is refused, or how many rows are written and how many tokens are consumed.
-#[derive(Drop)]
+#[derive(Clone, Copy)]
 pub enum Answer {
     Refused(usize),
     Read { rows: usize, consumed: usize },
 }
 
 // Whether a line is a block attribute list, or the number with which it is refused.
-#[derive(Drop)]
+#[derive(Clone, Copy)]
 pub enum BlockLine {
     Refused(usize),
     Is(bool),

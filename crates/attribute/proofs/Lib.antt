@@ -1,3 +1,5 @@
+pub mod Laws
+pub mod Examples
 pub mod SymbolKinds
 pub mod Outcomes
 pub mod Whole

@@ -22,7 +22,7 @@ use Rattle.put_rows.specs.Rows.{Read, one_row, in_shorthand, groups, group_read,
 use Rattle.attribute.specs.Attribute.{ir_read}
 use Rattle.put_rows.specs.Written.{WroteId, Outcome}
 use Rattle.attribute.specs.Outcome.{Uncut, Put, most_rows}
-use Rattle.put_rows.specs.RowsLaws.{id-by-run}
+use Rattle.put_rows.proofs.RowsLaws.{id-by-run}
 use Rattle.put_rows.proofs.Outcomes.{told, told-as}
 
 -- ---- where its runs stand

@@ -6,7 +6,7 @@ use mathlib.Core.Path.{◌≡◌}
 use lib.ListN.{get_or}
 use Rattle.token.specs.Kind.{dots, hash, percent}
 use Rattle.token.specs.Line.{Line, token_at}
-use Rattle.runs.specs.KeptLaws.{is-kind, not-kind}
+use Rattle.runs.proofs.KeptLaws.{is-kind, not-kind}
 use Rattle.attr_ir.specs.Look.{is_symbol}
 
 module _ (l : Line) (i : ℕ) where

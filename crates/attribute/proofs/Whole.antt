@@ -10,9 +10,9 @@ use Rattle.token.specs.Kind.{attr_ref}
 use Rattle.token.specs.Line.{Line, Token, token_at}
 use Rattle.runs.specs.Run.{kept, is_dots, is_hash, is_percent, is_whitespace, is_equals, of_one, up_to, onward, trim, run_of, in_run}
 use Rattle.runs.specs.Places.{Ends, Part, FoundIn, FoundAt}
-use Rattle.runs.specs.KeptLaws.{place_is, kept-none, kept-first}
+use Rattle.runs.proofs.KeptLaws.{place_is, kept-none, kept-first}
 use Rattle.row.specs.Row.{empty_positional, positional, diagnostic, with_rows}
-use Rattle.row.specs.Laws.{Writes, writes_start, writes-part}
+use Rattle.row.proofs.Laws.{Writes, writes_start, writes-part}
 use Rattle.attr_ir.specs.declared.AttrIr.{AttrIr}
 use Rattle.attr_ir.specs.declared.AttrIr.TheVariants as ir
 use Rattle.attr_ir.specs.declared.Reading.{Reading}
@@ -28,7 +28,7 @@ use Rattle.attr_ir.specs.Places.{InLine, Bounded}
 use Rattle.put_rows.specs.declared.Written.{Written}
 use Rattle.put_rows.specs.Rows.{Read, one_row, row_first, is_stop, run_rows}
 use Rattle.attribute.specs.Attribute.{cut_read, ir_read, reading, attribute}
-use Rattle.attribute.specs.Laws.{again, cut-has-symbol}
+use Rattle.attribute.proofs.Laws.{again, cut-has-symbol}
 use Rattle.put_rows.specs.Written.{StopFirst, Outcome}
 use Rattle.attribute.specs.Outcome.{Uncut}
 use Rattle.attribute.proofs.Outcomes.{bounded-in}

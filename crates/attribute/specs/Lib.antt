@@ -1,4 +1,2 @@
 pub mod Attribute
 pub mod Outcome
-pub mod Laws
-pub mod Examples

@@ -14,14 +14,14 @@ use token::line::length_of;
 use token::{TokenPlace, kind};
 
 // The place of the closing bracket, or that there is none.
-#[derive(Drop)]
+#[derive(Clone, Copy)]
 pub enum Closing {
     At(TokenPlace),
     Nowhere,
 }
 
 // What a link's brackets hold: a list, or text that ends before the token at a place.
-#[derive(Drop)]
+#[derive(Clone, Copy)]
 pub enum LinkMacro {
     AsList,
     AsText(TokenPlace),

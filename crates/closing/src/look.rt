@@ -5,7 +5,7 @@ ghost use Rattle.closing.specs.Link.{goes_on, turn};
 use token::kind;
 
 // What has been seen: whether the look is in double quotes, whether it is in a nested list, and the kind of the token before.
-#[derive(Drop)]
+#[derive(Clone, Copy)]
 pub struct Seen {
     pub quoted: bool,
     pub nested: bool,
@@ -13,7 +13,7 @@ pub struct Seen {
 }
 
 // What a token decides: that there is a list, that the text is closed before it, or nothing yet.
-#[derive(Drop)]
+#[derive(Clone, Copy)]
 pub enum Turn {
     Equals,
     Closed,

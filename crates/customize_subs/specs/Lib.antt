@@ -1,13 +1,6 @@
-pub mod SetOfNameLaws
 pub mod Text
 pub mod Customizing
 pub mod Sheet
 pub mod Outcome
-pub mod SheetExamples
 pub mod Places
 pub mod Steps
-pub mod TextLaws
-pub mod CustomizingLaws
-pub mod MetaLaws
-pub mod SheetLaws
-pub mod OutcomeLaws

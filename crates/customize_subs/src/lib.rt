@@ -16,7 +16,7 @@ use subs_names::Lookup;
 use substitutions::{Mode, SetAnswer, Substitutions};
 
 // The move that a part asks for.
-#[derive(Drop)]
+#[derive(Clone, Copy)]
 enum Strategy {
     Insert,
     Prepend,

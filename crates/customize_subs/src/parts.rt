@@ -10,14 +10,14 @@ use subs_names::{Lookup, look_up};
 use substitutions::Mode;
 
 // A part of the text: the bytes from `start` up to `end`.
-#[derive(Drop)]
+#[derive(Clone, Copy)]
 pub struct Span {
     pub start: usize,
     pub end: usize,
 }
 
 // The move that a part asks for, and where its name stands.
-#[derive(Drop)]
+#[derive(Clone, Copy)]
 pub struct Named {
     pub strategy: Strategy,
     pub start: usize,

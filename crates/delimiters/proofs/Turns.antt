@@ -15,8 +15,8 @@ use Rattle.delimiters.specs.Count.{counted, Quote, double, single, quote_kind}
 use Rattle.delimiters.specs.Delimit.{State, start, at_comma, put, note, at_quote, after, dividing}
 use Rattle.delimiters.specs.Stored.{stored_after, stored}
 use Rattle.delimiters.specs.Outcome.{Outcome}
-use Rattle.delimiters.specs.CountLaws.{count-is}
-use Rattle.delimiters.specs.StepLaws.{rejoined, rejoined-noted, comma-apart, after-comma, after-quote, after-other}
+use Rattle.delimiters.proofs.CountLaws.{count-is}
+use Rattle.delimiters.proofs.StepLaws.{rejoined, rejoined-noted, comma-apart, after-comma, after-quote, after-other}
 
 -- the code's two notes, by the kind of quote
 abbrev pub notes : ℕ → ℕ → Quote → ℕ

@@ -4,9 +4,3 @@ pub mod Stored
 pub mod Pairs
 pub mod Divide
 pub mod Outcome
-pub mod Examples
-pub mod CountLaws
-pub mod StepLaws
-pub mod CommaLaws
-pub mod PairLaws
-pub mod DivideLaws

@@ -7,7 +7,7 @@ ghost use Rattle.delimiters.specs.Outcome.{Outcome};
 use token::kind;
 
 // How many tokens are counted, and how many of their commas divide.
-#[derive(Drop)]
+#[derive(Clone, Copy)]
 pub struct Delimited {
     pub counted: usize,
     pub commas: usize,

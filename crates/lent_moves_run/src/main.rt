@@ -12,7 +12,7 @@ use substitutions::{
 };
 
 // How many sets are held, how many are refused because they are not, and how many answers differ.
-#[derive(Drop)]
+#[derive(Clone, Copy)]
 struct Count {
     held: u64,
     refused: u64,

@@ -11,7 +11,7 @@ use lib.Seq.{get_or-take, length-take-le}
 use Rattle.token.specs.Kind.{word}
 use Rattle.token.specs.Line.{Line, token_at, lexeme_at, run, empty_run}
 use Rattle.runs.specs.Run.{kept, run_of, last_of, trim, trim_start, trim_end, leave, quoted, unquote}
-use Rattle.runs.specs.KeptLaws.{kept-none, kept-one}
+use Rattle.runs.proofs.KeptLaws.{kept-none, kept-one}
 use Rattle.row.specs.declared.Row.{Row}
 use Rattle.row.specs.Row.{width, one_run, empty_positional, positional, Wrote}
 use Rattle.delimiters.specs.Delimit.{parted}
@@ -20,12 +20,12 @@ use Rattle.attr_ir.specs.Look.{look, sight}
 use Rattle.attr_ir.specs.Ir.{attr_ir, ir_as}
 use Rattle.put_rows.specs.Rows.{Read, one_row}
 use Rattle.attribute.specs.Attribute.{attribute, reading, ir_read}
-use Rattle.attribute.specs.Laws.{again}
+use Rattle.attribute.proofs.Laws.{again}
 use Rattle.put_rows.specs.Written.{WroteId}
 use Rattle.attribute.specs.Outcome.{Attributed}
 use Rattle.put_rows.proofs.Outcomes.{all_told}
 use Rattle.list_rows.specs.ListRows.{rows_from}
-use Rattle.list_rows.specs.ListRowsLaws.{Listing, listing-comma, listing-end, listing-next, listing-last}
+use Rattle.list_rows.proofs.ListRowsLaws.{Listing, listing-comma, listing-end, listing-next, listing-last}
 
 -- ---- an attribute of no tokens, and one of one Word: the row that is written for it
 

@@ -1,1 +1,2 @@
+pub mod ListRowsLaws
 pub mod Attributes

@@ -1,2 +1,1 @@
 pub mod ListRows
-pub mod ListRowsLaws

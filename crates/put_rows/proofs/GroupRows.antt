@@ -12,12 +12,12 @@ use Rattle.token.specs.declared.Run.{Run}
 use Rattle.token.specs.Kind.{attr_ref, dots, hash, percent}
 use Rattle.token.specs.Line.{Line, Token, line_of, token_at}
 use Rattle.runs.specs.Run.{kept, of_kind, of_one, trim, run_of, onward}
-use Rattle.runs.specs.KeptLaws.{none-start, none-skip, none_more, found_here, found_none}
+use Rattle.runs.proofs.KeptLaws.{none-start, none-skip, none_more, found_here, found_none}
 use Rattle.runs.specs.Places.{FoundAt}
-use Rattle.runs.specs.NamesLaws.{kind-of}
+use Rattle.runs.proofs.NamesLaws.{kind-of}
 use Rattle.row.specs.declared.Row.{Row}
 use Rattle.row.specs.Row.{width, numbers, one_run, diagnostic, ident, with_rows, Wrote}
-use Rattle.row.specs.Laws.{Writes, writes_start, writes-part, writes-wrote, wrote_none, wrote_one}
+use Rattle.row.proofs.Laws.{Writes, writes_start, writes-part, writes-wrote, wrote_none, wrote_one}
 use Rattle.put_rows.specs.declared.Written.{Written}
 use Rattle.put_rows.specs.Rows.{Read, one_row, is_stop, run_rows, unless_empty, groups, group_rows, id_run}
 use Rattle.put_rows.specs.Written.{WroteId, StopsAt}

@@ -1,3 +1,4 @@
+pub mod RowsLaws
 pub mod Lists
 pub mod GroupRows
 pub mod Shorts

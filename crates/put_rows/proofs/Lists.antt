@@ -10,7 +10,7 @@ use Rattle.token.specs.Kind.{attr_ref}
 use Rattle.token.specs.Line.{Line, Token, token_at}
 use Rattle.runs.specs.Run.{kept, is_hash, is_percent, up_to, onward, trim, run_of}
 use Rattle.runs.specs.Places.{FoundIn}
-use Rattle.runs.specs.KeptLaws.{onward-later, place_is, kept-none, kept-first, kept-split}
+use Rattle.runs.proofs.KeptLaws.{onward-later, place_is, kept-none, kept-first, kept-split}
 use Rattle.row.specs.declared.Row.{Row}
 use Rattle.row.specs.Row.{one_run, ident, diagnostic}
 use Rattle.put_rows.specs.Rows.{one_row, row_first, is_stop, pieces, symbol_row, last_empty, shorthand_read, later_groups, groups, unless_empty, group_rows}

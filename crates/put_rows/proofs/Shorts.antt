@@ -11,11 +11,11 @@ use Rattle.token.specs.declared.Run.{Run}
 use Rattle.token.specs.Kind.{hash, percent}
 use Rattle.token.specs.Line.{line_of, token_at}
 use Rattle.runs.specs.Run.{kept, is_hash, is_percent, run_of}
-use Rattle.runs.specs.KeptLaws.{kind-is, kept-none}
+use Rattle.runs.proofs.KeptLaws.{kind-is, kept-none}
 use Rattle.runs.specs.Places.{all, StartsAt}
 use Rattle.row.specs.declared.Row.{Row}
 use Rattle.row.specs.Row.{width, numbers, one_run, diagnostic}
-use Rattle.row.specs.Laws.{Writes, writes_start, writes-put, writes-part, writes-wrote}
+use Rattle.row.proofs.Laws.{Writes, writes_start, writes-put, writes-part, writes-wrote}
 use Rattle.put_rows.specs.declared.Written.{Written}
 use Rattle.put_rows.specs.Rows.{Read, one_row, row_first, pieces, shorthand_read}
 use Rattle.put_rows.specs.Written.{WroteId, StopsAt, StopFirst}

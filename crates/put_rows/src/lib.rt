@@ -7,7 +7,7 @@ pub mod shorthand;
 pub mod single;
 
 // How many rows are written, and whether the list then has an id.
-#[derive(Drop)]
+#[derive(Clone, Copy)]
 pub struct Written {
     pub rows: usize,
     pub id: bool,

@@ -8,7 +8,7 @@ use super::show::{count, words};
 pub const ROOM: usize = 400000;
 
 // What is held of a line whose end is not read yet: so many bytes at the front of the buffer, one more than ROOM where it has too many; and its number.
-#[derive(Drop)]
+#[derive(Clone, Copy)]
 pub struct Held {
     pub bytes: usize,
     pub line: usize,

@@ -9,7 +9,7 @@ pub const ROOM_TOKENS: usize = 4097;
 pub const ROOM_BYTES: usize = 65536;
 
 // How many tokens and bytes a line has, and what is wrong with it: 0 for nothing, else a reason, with the place of the word that it is about.
-#[derive(Drop)]
+#[derive(Clone, Copy)]
 pub struct Filled {
     pub tokens: usize,
     pub bytes: usize,
@@ -19,7 +19,7 @@ pub struct Filled {
 }
 
 // Where the text of a token ends, or that it has an unknown escape.
-#[derive(Drop)]
+#[derive(Clone, Copy)]
 pub struct Copied {
     pub bytes: usize,
     pub known: bool,
@@ -57,7 +57,7 @@ fn hex(b: u8) -> u8
 }
 
 // A byte of a token's text: its value, how many bytes of the file it takes, and whether its escape is a known one.
-#[derive(Drop)]
+#[derive(Clone, Copy)]
 pub struct Piece {
     pub value: u8,
     pub width: usize,

@@ -1,14 +1,14 @@
 // Decimal numbers in a text, each ended by one other byte.
 ghost use Rattle.std.specs.Prelude.{◌≡◌, ◌≤◌};
 
-#[derive(Drop)]
+#[derive(Clone, Copy)]
 pub struct Decimal {
     pub value: u64,
     pub next: usize,
 }
 
 // How many elements an array has in a recorded call, and where reading goes on.
-#[derive(Drop)]
+#[derive(Clone, Copy)]
 pub struct Filled {
     pub count: usize,
     pub next: usize,

@@ -3,7 +3,7 @@ use crate::input::{bytes, number};
 use substitutions::{SetAnswer, Substitutions};
 
 // The seven places of a recorded set, and where reading goes on.
-#[derive(Drop)]
+#[derive(Clone, Copy)]
 pub struct Places {
     pub places: [u8; 7],
     pub next: usize,

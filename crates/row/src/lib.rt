@@ -13,7 +13,7 @@ pub mod tag;
 pub const WIDTH: usize = 5;
 
 // A row: its tag, then two runs; an unused run is empty.
-#[derive(Drop)]
+#[derive(Clone, Copy)]
 pub struct Row {
     pub tag: u32,
     pub first: Run,

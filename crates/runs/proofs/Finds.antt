@@ -10,7 +10,7 @@ use borrow.Author.Tests.{eqb-true, eqb-false}
 use Rattle.token.specs.Kind.{attr_ref}
 use Rattle.token.specs.Line.{Token, line_of, token_at}
 use Rattle.runs.specs.Run.{kept, onward}
-use Rattle.runs.specs.KeptLaws.{none-start, none-skip, none_more, found_here, found_none}
+use Rattle.runs.proofs.KeptLaws.{none-start, none-skip, none_more, found_here, found_none}
 use Rattle.runs.specs.Places.{FoundAt}
 
 -- none was found below i

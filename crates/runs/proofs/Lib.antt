@@ -1,3 +1,6 @@
+pub mod KeptLaws
+pub mod PlacesLaws
+pub mod NamesLaws
 pub mod Ranges
 pub mod Quotes
 pub mod Finds

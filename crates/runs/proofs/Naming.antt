@@ -13,8 +13,8 @@ use Rattle.token.specs.Kind.{attr_ref, whitespace}
 use Rattle.token.specs.Line.{Line, Token, line_of, token_at}
 use Rattle.runs.specs.Run.{kept, is_whitespace, without}
 use Rattle.runs.specs.Names.{bytes, same_bytes, prefix}
-use Rattle.runs.specs.KeptLaws.{is-kind, not-kind, kept-none, kept-first, kept-skip}
-use Rattle.runs.specs.NamesLaws.{same_bytes-append, same_bytes-none}
+use Rattle.runs.proofs.KeptLaws.{is-kind, not-kind, kept-none, kept-first, kept-skip}
+use Rattle.runs.proofs.NamesLaws.{same_bytes-append, same_bytes-none}
 
 -- ---- `starts_with`
 

@@ -11,7 +11,7 @@ use Rattle.token.specs.Kind.{double_quote, single_quote}
 use Rattle.token.specs.Line.{Line, line_of, run}
 use Rattle.runs.specs.Run.{kept, quoted, unquote, run_of, in_run}
 use Rattle.runs.specs.Places.{Ends, all, Part}
-use Rattle.runs.specs.KeptLaws.{kind-is, is-kind, not-kind, quoted-long, quoted-short, quoted-room, unquote-ends, unquote-plain}
+use Rattle.runs.proofs.KeptLaws.{kind-is, is-kind, not-kind, quoted-long, quoted-short, quoted-room, unquote-ends, unquote-plain}
 
 module _ (kinds : List ℕ) (a b : ℕ) (w : Ends kinds a b) where
   pub quotes-short : b ≤ a + 1 → (text pairs : List ℕ) → false ≡ quoted (kept (line_of kinds text pairs) a b)

@@ -13,8 +13,8 @@ use Rattle.token.specs.Kind.{attr_ref, whitespace}
 use Rattle.token.specs.Line.{Line, Token, line_of, token_at, run, empty_run}
 use Rattle.runs.specs.Run.{kept, trim_start, trim_end, trim, run_of, first_place, between}
 use Rattle.runs.specs.Places.{Ends, all, Narrowed, StartsAt, EndsAt, Part}
-use Rattle.runs.specs.KeptLaws.{is-kind, not-kind, kept-none, kept-first, kept-skip, kept-last, kept-last-skip, kept-split, trim_start-space, trim_start-stop, trim_end-space, trim_end-stop}
-use Rattle.runs.specs.PlacesLaws.{starts-place, run-here, run-empty}
+use Rattle.runs.proofs.KeptLaws.{is-kind, not-kind, kept-none, kept-first, kept-skip, kept-last, kept-last-skip, kept-split, trim_start-space, trim_start-stop, trim_end-space, trim_end-stop}
+use Rattle.runs.proofs.PlacesLaws.{starts-place, run-here, run-empty}
 
 -- ---- from the left: what is left of from..to at i has the same f
 

@@ -10,7 +10,7 @@ use token::TokenPlace;
 use token::kind::ATTR_REF;
 
 // What is left to read of a run: the kinds on loan, the place of the next token kept, and the place past the run. With nothing left the two are one.
-#[derive(Drop)]
+#[derive(Clone, Copy)]
 pub struct RunTokens<'a> {
     pub kinds: &'a [u8],
     pub at: TokenPlace,

@@ -1,4 +1,2 @@
 pub mod Names
 pub mod KindNames
-pub mod NamesLaws
-pub mod KindNamesLaws

@@ -8,7 +8,7 @@ ghost use Rattle.subs_names.specs.KindNames.{name_of, padded, copied};
 use substitutions::Subs;
 
 // A name of one kind or of a group of kinds.
-#[derive(Drop)]
+#[derive(Clone, Copy)]
 pub enum StepOrGroup {
     None,
     Normal,
@@ -23,7 +23,7 @@ pub enum StepOrGroup {
 }
 
 // What looking a name up gives.
-#[derive(Drop)]
+#[derive(Clone, Copy)]
 pub enum Lookup {
     Found(StepOrGroup),
     Unknown,
@@ -83,7 +83,7 @@ pub fn look_up(name: &[u8]) -> Lookup
 }
 
 // A kind's name: its bytes, then 0, on as many places as the longest name has.
-#[derive(Drop)]
+#[derive(Clone, Copy)]
 pub struct KindName {
     pub bytes: [u8; 17],
     pub length: usize,

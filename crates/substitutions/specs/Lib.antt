@@ -5,11 +5,3 @@ pub mod Moves
 pub mod Order
 pub mod Starting
 pub mod Loops
-pub mod KindsLaws
-pub mod HeldLaws
-pub mod PlacesLaws
-pub mod MovesLaws
-pub mod AnswersLaws
-pub mod HeldPlacesLaws
-pub mod OrderLaws
-pub mod StartingLaws

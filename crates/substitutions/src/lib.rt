@@ -18,7 +18,7 @@ use crate::flags::is_flagged;
 use crate::rules::{at_most_one, is_normal, take_flags};
 
 // Kinds 1 to 7, in this order.
-#[derive(Drop)]
+#[derive(Clone, Copy)]
 pub enum Subs {
     SpecialChars,
     InlineFormatting,
@@ -30,21 +30,21 @@ pub enum Subs {
 }
 
 // What a number names: a kind, or none.
-#[derive(Drop)]
+#[derive(Clone, Copy)]
 pub enum Numbered {
     Kind(Subs),
     NoKind,
 }
 
 // Port mode is the Rust's, with six places to insert into; sheet mode has seven.
-#[derive(Drop)]
+#[derive(Clone, Copy)]
 pub enum Mode {
     Port,
     Sheet,
 }
 
 #[repr(C)]
-#[derive(Drop)]
+#[derive(Clone, Copy)]
 pub struct Substitutions {
     pub places: [u8; 7],
     pub flags: u8,
@@ -52,7 +52,7 @@ pub struct Substitutions {
 
 // The number of the refusal and the set given, or 0 and the set that a move gives.
 #[repr(C)]
-#[derive(Drop)]
+#[derive(Clone, Copy)]
 pub struct SetAnswer {
     pub refusal: usize,
     pub set: Substitutions,

@@ -11,7 +11,7 @@ use Rattle.attr_list.specs.Entry.{Entry}
 use Rattle.attr_list.specs.Reading.{Reading, refused, gives, answer_of, reading}
 use Rattle.attr_list.specs.ReadAsList.{TakenAsList, ReadAsList}
 use Rattle.attr_list.specs.Outcome.{Outcome, WhenReadAsList}
-use Rattle.attr_list.specs.RefusalLaws.{Numbered, reading-numbered}
+use Rattle.attr_list.proofs.RefusalLaws.{Numbered, reading-numbered}
 use Rattle.telfjost.specs.declared.TelfjostList.{TelfjostList}
 use Rattle.telfjost.specs.Outcome.{NumbersOf, ListOutcome}
 

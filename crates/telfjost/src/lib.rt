@@ -12,7 +12,7 @@ use attr_list::BlockLine;
 
 // A refusal, 0 for none, and 1 for yes.
 #[repr(C)]
-#[derive(Drop)]
+#[derive(Clone, Copy)]
 pub struct TelfjostBool {
     pub refusal: usize,
     pub yes: usize,
@@ -20,7 +20,7 @@ pub struct TelfjostBool {
 
 // A refusal, 0 for none, how many rows are written and how many tokens are consumed; the last two are 0 where the call is refused.
 #[repr(C)]
-#[derive(Drop)]
+#[derive(Clone, Copy)]
 pub struct TelfjostList {
     pub refusal: usize,
     pub rows: usize,

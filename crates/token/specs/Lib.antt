@@ -1,4 +1,3 @@
 pub mod Kind
 pub mod Line
 pub mod Lent
-pub mod LineLaws

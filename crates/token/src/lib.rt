@@ -5,15 +5,15 @@ pub mod kind;
 pub mod line;
 
 // A token place: counts tokens.
-#[derive(Drop)]
+#[derive(Clone, Copy)]
 pub struct TokenPlace(pub usize);
 
 // A byte offset of a lexeme: counts bytes.
-#[derive(Drop)]
+#[derive(Clone, Copy)]
 pub struct ByteOffset(pub usize);
 
 // A run: the place of its first kept token, and how many places there are from it to its last. An empty run is 0, 0.
-#[derive(Drop)]
+#[derive(Clone, Copy)]
 pub struct Run {
     pub place: TokenPlace,
     pub count: usize,

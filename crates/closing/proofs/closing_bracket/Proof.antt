@@ -5,7 +5,7 @@ use Prim.Native.Nat.{◌-◌}
 use native.Mathlib.Omega.{arith}
 use mathlib.Core.Bool.{Bool}
 use mathlib.Core.Path.{sym, ap, ◌∙◌}
-use Rattle.closing.specs.ClosingLaws.{begins-among, begins-none, begins-some}
+use Rattle.closing.proofs.ClosingLaws.{begins-among, begins-none, begins-some}
 use Rattle.closing.specs.Closing.{numbers_of, next_bracket, closing}
 use Rattle.closing.proofs.closing_bracket.Statement.{statement}
 use Rattle.closing.proofs.closing_bracket.Tie as tie

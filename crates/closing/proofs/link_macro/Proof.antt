@@ -6,7 +6,7 @@ use native.Mathlib.Omega.{arith}
 use mathlib.Core.Path.{◌≡◌, sym, ap, ◌∙◌}
 use lib.Dec.{eqb}
 use lib.ListN.{length}
-use Rattle.closing.specs.LinkLaws.{on_from, look-start, look-list, look-text, look-on, look-end}
+use Rattle.closing.proofs.LinkLaws.{on_from, look-start, look-list, look-text, look-on, look-end}
 use Rattle.closing.specs.Link.{holds_of, link_macro}
 use Rattle.closing.proofs.link_macro.Statement.{statement}
 use Rattle.closing.proofs.link_macro.Tie as tie

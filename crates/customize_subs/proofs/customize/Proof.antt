@@ -10,10 +10,10 @@ use Rattle.substitutions.specs.Held.{held}
 use Rattle.subs_names.specs.declared.Lookup.TheVariants.{Found, Unknown}
 use Rattle.customize_subs.specs.Text.{split}
 use Rattle.customize_subs.specs.Customizing.{through}
-use Rattle.customize_subs.specs.TextLaws.{parts_all}
+use Rattle.customize_subs.proofs.TextLaws.{parts_all}
 use Rattle.customize_subs.specs.Places.{between, parts_from}
-use Rattle.customize_subs.specs.CustomizingLaws.{turn-short, turn-name, turns-over}
-use Rattle.customize_subs.specs.MetaLaws.{entered-held}
+use Rattle.customize_subs.proofs.CustomizingLaws.{turn-short, turn-name, turns-over}
+use Rattle.customize_subs.proofs.MetaLaws.{entered-held}
 use Rattle.customize_subs.proofs.customize.Statement.{statement}
 use Rattle.customize_subs.proofs.customize.Tie as tie
 

@@ -1,6 +1,6 @@
 -- `from_meta` answers as `from_meta_in` does in port mode, and its outcome follows from the answer. Assumes nothing.
 use borrow.Author.Rules.{rules}
-use Rattle.customize_subs.specs.OutcomeLaws.{port-outcome}
+use Rattle.customize_subs.proofs.OutcomeLaws.{port-outcome}
 use Rattle.customize_subs.proofs.from_meta.Statement.{statement}
 use Rattle.customize_subs.proofs.from_meta.Tie as tie
 

@@ -6,10 +6,10 @@ use mathlib.Core.Path.{sym, ap, ◌∙◌}
 use lib.ListN.{set}
 use borrow.Author.Tests.{not-true, not-false}
 use Rattle.substitutions.specs.Held.{held}
-use Rattle.substitutions.specs.AnswersLaws.{accepted, refused, moved_to}
+use Rattle.substitutions.proofs.AnswersLaws.{accepted, refused, moved_to}
 use Rattle.customize_subs.specs.Customizing.{meta_of, meta_refusal, meta_answer}
-use Rattle.customize_subs.specs.CustomizingLaws.{set-accepted, short-text, meta-absent, meta-present}
-use Rattle.customize_subs.specs.MetaLaws.{start-held}
+use Rattle.customize_subs.proofs.CustomizingLaws.{set-accepted, short-text, meta-absent, meta-present}
+use Rattle.customize_subs.proofs.MetaLaws.{start-held}
 use Rattle.customize_subs.proofs.from_meta_in.Statement.{statement}
 use Rattle.customize_subs.proofs.from_meta_in.Tie as tie
 

@@ -1,6 +1,6 @@
 -- `from_meta_sheet` answers as `from_meta_in` does in sheet mode, and its outcome follows from the answer. Assumes nothing.
 use borrow.Author.Rules.{rules}
-use Rattle.customize_subs.specs.OutcomeLaws.{sheet-outcome}
+use Rattle.customize_subs.proofs.OutcomeLaws.{sheet-outcome}
 use Rattle.customize_subs.proofs.from_meta_sheet.Statement.{statement}
 use Rattle.customize_subs.proofs.from_meta_sheet.Tie as tie
 

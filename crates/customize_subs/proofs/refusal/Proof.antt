@@ -4,7 +4,7 @@ use Prim.Native.Nat.{◌-◌}
 use mathlib.Core.Path.{◌∙◌}
 use lib.ListN.{set}
 use borrow.Author.Tests.{not-true, not-false}
-use Rattle.customize_subs.specs.CustomizingLaws.{refusal-absent, refusal-long, refusal-short}
+use Rattle.customize_subs.proofs.CustomizingLaws.{refusal-absent, refusal-long, refusal-short}
 use Rattle.customize_subs.proofs.refusal.Statement.{statement}
 use Rattle.customize_subs.proofs.refusal.Tie as tie
 

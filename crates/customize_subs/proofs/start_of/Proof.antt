@@ -3,7 +3,7 @@ use borrow.Author.Rules.{rules}
 use Prim.Native.Nat.{◌-◌}
 use mathlib.Core.Path.{sym, ◌∙◌}
 use Rattle.customize_subs.specs.Customizing.{start_of}
-use Rattle.customize_subs.specs.TextLaws.{modified-begins}
+use Rattle.customize_subs.proofs.TextLaws.{modified-begins}
 use Rattle.customize_subs.proofs.start_of.Statement.{statement}
 use Rattle.customize_subs.proofs.start_of.Tie as tie
 

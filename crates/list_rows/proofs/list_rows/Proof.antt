@@ -6,7 +6,7 @@ use native.Mathlib.Omega.{arith}
 use mathlib.Core.Path.{◌∙◌}
 use lib.ListN.{length, take}
 use Rattle.list_rows.proofs.Attributes.{comma-room, end-room, next, last}
-use Rattle.list_rows.specs.ListRowsLaws.{Listing, listing_start}
+use Rattle.list_rows.proofs.ListRowsLaws.{Listing, listing_start}
 use Rattle.token.specs.Line.{line_of}
 use Rattle.list_rows.proofs.list_rows.Statement.{statement}
 use Rattle.list_rows.proofs.list_rows.Tie as tie

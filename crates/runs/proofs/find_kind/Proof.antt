@@ -3,8 +3,8 @@ use Prim.Native.Nat.{◌-◌}
 use native.Mathlib.Omega.{arith}
 use mathlib.Core.Path.{sym, ◌∙◌}
 use Rattle.runs.proofs.Finds.{Sought, sought-start, sought-next, sought-here, sought-end}
-use Rattle.runs.specs.KeptLaws.{is-kind, not-kind}
-use Rattle.runs.specs.PlacesLaws.{found-place}
+use Rattle.runs.proofs.KeptLaws.{is-kind, not-kind}
+use Rattle.runs.proofs.PlacesLaws.{found-place}
 use Rattle.token.specs.Line.{line_of}
 use Rattle.runs.specs.Run.{of_kind}
 use Rattle.runs.proofs.find_kind.Statement.{statement}

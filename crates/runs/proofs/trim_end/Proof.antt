@@ -2,7 +2,7 @@
 use Prim.Native.Nat.{◌-◌}
 use native.Mathlib.Omega.{arith}
 use Rattle.runs.proofs.Ranges.{Right, right-start, right-skip, right_end, right-space, right-word}
-use Rattle.runs.specs.KeptLaws.{trim_end-none}
+use Rattle.runs.proofs.KeptLaws.{trim_end-none}
 use Rattle.runs.specs.Run.{trim_end}
 use Rattle.runs.proofs.trim_end.Statement.{statement}
 use Rattle.runs.proofs.trim_end.Tie as tie

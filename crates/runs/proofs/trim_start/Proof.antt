@@ -2,7 +2,7 @@
 use Prim.Native.Nat.{◌-◌}
 use native.Mathlib.Omega.{arith}
 use Rattle.runs.proofs.Ranges.{Left, left-start, left-skip, left_end, left-space, left_word}
-use Rattle.runs.specs.KeptLaws.{trim_start-none}
+use Rattle.runs.proofs.KeptLaws.{trim_start-none}
 use Rattle.runs.specs.Run.{trim_start}
 use Rattle.runs.proofs.trim_start.Statement.{statement}
 use Rattle.runs.proofs.trim_start.Tie as tie

@@ -5,7 +5,7 @@ use native.Mathlib.Omega.{arith}
 use mathlib.Core.Path.{◌≡◌, ◌∙◌}
 use lib.ListN.{length, drop}
 use Rattle.subs_names.specs.Names.{same}
-use Rattle.subs_names.specs.NamesLaws.{same-lengths, same_next, same_stop, same_end}
+use Rattle.subs_names.proofs.NamesLaws.{same-lengths, same_next, same_stop, same_end}
 use Rattle.subs_names.proofs.is_name.Statement.{statement}
 use Rattle.subs_names.proofs.is_name.Tie as tie
 

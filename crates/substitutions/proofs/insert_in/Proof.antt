@@ -5,7 +5,7 @@ use mathlib.Core.Path.{sym, ◌∙◌}
 use lib.ListN.{set}
 use Rattle.substitutions.specs.Kinds.{number_of}
 use Rattle.substitutions.specs.Moves.{room, insert_of, refusal_of, insert_answer}
-use Rattle.substitutions.specs.AnswersLaws.{refused, moved_to}
+use Rattle.substitutions.proofs.AnswersLaws.{refused, moved_to}
 use Rattle.substitutions.proofs.insert_in.Statement.{statement}
 use Rattle.substitutions.proofs.insert_in.Tie as tie
 

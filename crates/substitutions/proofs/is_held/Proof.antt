@@ -4,7 +4,7 @@ use Prim.Native.Nat.{◌-◌}
 use mathlib.Core.Path.{sym, ap, ◌∙◌}
 use lib.ListN.{set}
 use Rattle.substitutions.specs.Loops.{few}
-use Rattle.substitutions.specs.HeldLaws.{held-is}
+use Rattle.substitutions.proofs.HeldLaws.{held-is}
 use Rattle.substitutions.proofs.is_held.Statement.{statement}
 use Rattle.substitutions.proofs.is_held.Tie as tie
 

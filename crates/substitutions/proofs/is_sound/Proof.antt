@@ -4,7 +4,7 @@ use Prim.Native.Nat.{ℕ, ◌-◌}
 use mathlib.Core.Path.{sym, ap, ◌∙◌}
 use lib.Dec.{eqb}
 use lib.ListN.{set}
-use Rattle.substitutions.specs.HeldLaws.{sound-is}
+use Rattle.substitutions.proofs.HeldLaws.{sound-is}
 use Rattle.substitutions.proofs.is_sound.Statement.{statement}
 use Rattle.substitutions.proofs.is_sound.Tie as tie
 

@@ -1,7 +1,7 @@
 -- `kind_of` names the kind of each number. Each arm knows its number. Assumes nothing.
 use Prim.Native.Nat.{◌-◌}
 use Rattle.substitutions.specs.Kinds.{kind_of}
-use Rattle.substitutions.specs.KindsLaws.{no_kind}
+use Rattle.substitutions.proofs.KindsLaws.{no_kind}
 use Rattle.substitutions.proofs.kind_of.Statement.{statement}
 use Rattle.substitutions.proofs.kind_of.Tie as tie
 

@@ -5,7 +5,7 @@ use mathlib.Core.Path.{sym, ◌∙◌}
 use lib.ListN.{set}
 use Rattle.substitutions.specs.Kinds.{number_of}
 use Rattle.substitutions.specs.Moves.{prepend_of, refusal_of, prepend_answer}
-use Rattle.substitutions.specs.AnswersLaws.{refused, moved_to}
+use Rattle.substitutions.proofs.AnswersLaws.{refused, moved_to}
 use Rattle.substitutions.proofs.prepend_in.Statement.{statement}
 use Rattle.substitutions.proofs.prepend_in.Tie as tie
 

@@ -5,7 +5,7 @@ use mathlib.Core.Path.{sym, ap, ◌∙◌}
 use lib.ListN.{set}
 use borrow.Author.Tests.{not-true, not-false}
 use Rattle.substitutions.specs.Loops.{few}
-use Rattle.substitutions.specs.AnswersLaws.{refusal-10, refusal-port, refusal-sheet, refusal-11}
+use Rattle.substitutions.proofs.AnswersLaws.{refusal-10, refusal-port, refusal-sheet, refusal-11}
 use Rattle.substitutions.proofs.refusal.Statement.{statement}
 use Rattle.substitutions.proofs.refusal.Tie as tie
 

@@ -5,7 +5,7 @@ use mathlib.Core.Path.{sym, ◌∙◌}
 use lib.ListN.{set}
 use Rattle.substitutions.specs.Kinds.{number_of}
 use Rattle.substitutions.specs.Moves.{remove_of, refusal_of, remove_answer}
-use Rattle.substitutions.specs.AnswersLaws.{refused, moved_to}
+use Rattle.substitutions.proofs.AnswersLaws.{refused, moved_to}
 use Rattle.substitutions.proofs.remove_in.Statement.{statement}
 use Rattle.substitutions.proofs.remove_in.Tie as tie
 

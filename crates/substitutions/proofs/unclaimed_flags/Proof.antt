@@ -4,7 +4,7 @@ use Prim.Native.Nat.{◌-◌}
 use native.Mathlib.Omega.{arith}
 use mathlib.Core.Path.{sym, ◌∙◌}
 use lib.ListN.{set}
-use Rattle.substitutions.specs.AnswersLaws.{left-big, left-small, normal-left}
+use Rattle.substitutions.proofs.AnswersLaws.{left-big, left-small, normal-left}
 use Rattle.substitutions.proofs.unclaimed_flags.Statement.{statement}
 use Rattle.substitutions.proofs.unclaimed_flags.Tie as tie
 

@@ -5,8 +5,8 @@ use native.Mathlib.Omega.{arith}
 use mathlib.Core.Path.{sym, ◌∙◌}
 use borrow.Author.Tests.{eq-eqb, ne_eqb}
 use Rattle.attr_ir.proofs.Sights.{by-symbol, space-none, space-equals, space-other, equals-first, equals-one, equals-more, sight-quote, sight-quote', sight-other}
-use Rattle.runs.specs.NamesLaws.{kind-of, kind-not, one-is}
-use Rattle.runs.specs.KeptLaws.{kept-none, kept-first}
+use Rattle.runs.proofs.NamesLaws.{kind-of, kind-not, one-is}
+use Rattle.runs.proofs.KeptLaws.{kept-none, kept-first}
 use Rattle.runs.specs.Run.{kept}
 use Rattle.token.specs.Line.{line_of, token_at}
 use Rattle.attr_ir.proofs.look.sight_at.Statement.{statement}

@@ -5,7 +5,7 @@ use native.Mathlib.Omega.{arith}
 use mathlib.Core.Path.{sym, ◌∙◌}
 use Rattle.attr_ir.proofs.Values.{part_in}
 use Rattle.runs.specs.Run.{trim}
-use Rattle.runs.specs.KeptLaws.{run-without}
+use Rattle.runs.proofs.KeptLaws.{run-without}
 use Rattle.attr_ir.proofs.naming.name_run.Statement.{statement}
 use Rattle.attr_ir.proofs.naming.name_run.Tie as tie
 

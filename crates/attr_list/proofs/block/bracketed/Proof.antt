@@ -2,7 +2,7 @@
 use borrow.Author.Rules.{rules}
 use Prim.Native.Nat.{◌-◌}
 use borrow.Author.Tests.{eq-eqb, ne_eqb}
-use Rattle.attr_list.specs.BlockLaws.{single-not}
+use Rattle.attr_list.proofs.BlockLaws.{single-not}
 use Rattle.attr_list.specs.Block.{is_block_attr_list}
 use Rattle.attr_list.proofs.block.bracketed.Statement.{statement}
 use Rattle.attr_list.proofs.block.bracketed.Tie as tie

@@ -1,8 +1,8 @@
 -- `last_bracket` gives the last token's place where it is a CloseBracket: one law for each way through. Assumes nothing.
 use borrow.Author.Rules.{rules}
 use Prim.Native.Nat.{◌-◌}
-use Rattle.closing.specs.Laws.{last_none}
-use Rattle.closing.specs.Laws.{last-here, last-not}
+use Rattle.closing.proofs.Laws.{last_none}
+use Rattle.closing.proofs.Laws.{last-here, last-not}
 use Rattle.closing.proofs.bracket.last_bracket.Statement.{statement}
 use Rattle.closing.proofs.bracket.last_bracket.Tie as tie
 

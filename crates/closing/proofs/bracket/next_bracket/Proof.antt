@@ -6,7 +6,7 @@ use mathlib.Core.Bool.{not}
 use mathlib.Core.Path.{◌≡◌, ◌∙◌}
 use mathlib.Core.Logic.{⊎_elim}
 use lib.ListN.{length}
-use Rattle.closing.specs.Laws.{on_from, next-first, next-after, next_here, next-on, next-end}
+use Rattle.closing.proofs.Laws.{on_from, next-first, next-after, next_here, next-on, next-end}
 use Rattle.closing.specs.Closing.{next_bracket}
 use Rattle.closing.proofs.bracket.next_bracket.Statement.{statement}
 use Rattle.closing.proofs.bracket.next_bracket.Tie as tie

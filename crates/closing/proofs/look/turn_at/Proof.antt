@@ -2,7 +2,7 @@
 use borrow.Author.Rules.{rules}
 use Prim.Native.Nat.{◌-◌}
 use mathlib.Core.Path.{◌∙◌}
-use Rattle.closing.specs.LinkLaws.{turn-nested, turn-closed, turn-open, turn-quote, turn-escaped-close, turn-escaped-open, turn-escaped-quote, turn-equals, turn-quoted, turn-long, turn-other}
+use Rattle.closing.proofs.LinkLaws.{turn-nested, turn-closed, turn-open, turn-quote, turn-escaped-close, turn-escaped-open, turn-escaped-quote, turn-equals, turn-quoted, turn-long, turn-other}
 use Rattle.closing.proofs.look.turn_at.Statement.{statement}
 use Rattle.closing.proofs.look.turn_at.Tie as tie
 

@@ -3,7 +3,7 @@ use borrow.Author.Rules.{rules}
 use Prim.Native.Nat.{ℕ, ◌-◌}
 use mathlib.Core.Path.{ap, ◌∙◌}
 use lib.Dec.{eqb}
-use Rattle.customize_subs.specs.TextLaws.{begins-none, one-is}
+use Rattle.customize_subs.proofs.TextLaws.{begins-none, one-is}
 use Rattle.customize_subs.proofs.parts.begins_modified.Statement.{statement}
 use Rattle.customize_subs.proofs.parts.begins_modified.Tie as tie
 

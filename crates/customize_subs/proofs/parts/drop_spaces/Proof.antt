@@ -4,7 +4,7 @@ use Prim.Native.Nat.{◌-◌, ◌≤◌}
 use native.Mathlib.Omega.{arith}
 use mathlib.Core.Path.{◌≡◌, ◌∙◌}
 use Rattle.customize_subs.specs.Text.{back}
-use Rattle.customize_subs.specs.TextLaws.{back-here, back-next, back_end}
+use Rattle.customize_subs.proofs.TextLaws.{back-here, back-next, back_end}
 use Rattle.customize_subs.specs.Places.{between}
 use Rattle.customize_subs.proofs.parts.drop_spaces.Statement.{statement}
 use Rattle.customize_subs.proofs.parts.drop_spaces.Tie as tie

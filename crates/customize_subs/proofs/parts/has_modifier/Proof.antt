@@ -7,7 +7,7 @@ use mathlib.Core.Path.{◌≡◌, refl, sym, ap, ◌∙◌}
 use lib.Dec.{eqb}
 use lib.ListN.{length, drop, get_or}
 use Rattle.customize_subs.specs.Text.{modified}
-use Rattle.customize_subs.specs.TextLaws.{found-or, modified-found, modified-end}
+use Rattle.customize_subs.proofs.TextLaws.{found-or, modified-found, modified-end}
 use Rattle.customize_subs.specs.Places.{is_modifier}
 use Rattle.customize_subs.proofs.parts.has_modifier.Statement.{statement}
 use Rattle.customize_subs.proofs.parts.has_modifier.Tie as tie

@@ -2,7 +2,7 @@
 use borrow.Author.Rules.{rules}
 use Prim.Native.Nat.{◌-◌}
 use native.Mathlib.Omega.{arith}
-use Rattle.customize_subs.specs.CustomizingLaws.{reads-plus, reads-trailing, reads-minus, reads_plain}
+use Rattle.customize_subs.proofs.CustomizingLaws.{reads-plus, reads-trailing, reads-minus, reads_plain}
 use Rattle.customize_subs.proofs.parts.name_at.Statement.{statement}
 use Rattle.customize_subs.proofs.parts.name_at.Tie as tie
 

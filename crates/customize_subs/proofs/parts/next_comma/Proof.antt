@@ -4,7 +4,7 @@ use Prim.Native.Nat.{◌+◌, ◌-◌, ◌≤◌}
 use native.Mathlib.Omega.{arith}
 use mathlib.Core.Path.{◌≡◌}
 use lib.ListN.{length, drop}
-use Rattle.customize_subs.specs.TextLaws.{comma-here, comma-next, comma-end}
+use Rattle.customize_subs.proofs.TextLaws.{comma-here, comma-next, comma-end}
 use Rattle.customize_subs.specs.Places.{to_comma}
 use Rattle.customize_subs.proofs.parts.next_comma.Statement.{statement}
 use Rattle.customize_subs.proofs.parts.next_comma.Tie as tie

@@ -5,7 +5,7 @@ use native.Mathlib.Omega.{arith}
 use mathlib.Core.Path.{refl, ap, ◌∙◌}
 use Rattle.substitutions.specs.declared.Mode.TheVariants.{Port, Sheet}
 use Rattle.customize_subs.specs.Text.{back, spaced}
-use Rattle.customize_subs.specs.CustomizingLaws.{part-stands}
+use Rattle.customize_subs.proofs.CustomizingLaws.{part-stands}
 use Rattle.customize_subs.proofs.parts.part_at.Statement.{statement}
 use Rattle.customize_subs.proofs.parts.part_at.Tie as tie
 

@@ -4,7 +4,7 @@ use Prim.Native.Nat.{◌-◌, ◌≤◌}
 use native.Mathlib.Omega.{arith}
 use mathlib.Core.Path.{◌≡◌, ◌∙◌}
 use Rattle.customize_subs.specs.Text.{front}
-use Rattle.customize_subs.specs.TextLaws.{front-stop, front-next, front-end}
+use Rattle.customize_subs.proofs.TextLaws.{front-stop, front-next, front-end}
 use Rattle.customize_subs.specs.Places.{between}
 use Rattle.customize_subs.proofs.parts.skip_spaces.Statement.{statement}
 use Rattle.customize_subs.proofs.parts.skip_spaces.Tie as tie

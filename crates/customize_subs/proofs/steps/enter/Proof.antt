@@ -1,7 +1,7 @@
 -- `enter` gives the set of the name alone where the set is empty and the move inserts; else it enters the kinds. Assumes nothing.
 use borrow.Author.Rules.{rules}
 use Prim.Native.Nat.{◌-◌}
-use Rattle.customize_subs.specs.SetOfNameLaws.{enter-into-empty}
+use Rattle.customize_subs.proofs.SetOfNameLaws.{enter-into-empty}
 use Rattle.customize_subs.proofs.steps.enter.Statement.{statement}
 use Rattle.customize_subs.proofs.steps.enter.Tie as tie
 

@@ -2,7 +2,7 @@
 use borrow.Author.Rules.{rules}
 use Prim.Native.Nat.{◌-◌}
 use mathlib.Core.Path.{sym, ◌∙◌}
-use Rattle.customize_subs.specs.CustomizingLaws.{no-op-same}
+use Rattle.customize_subs.proofs.CustomizingLaws.{no-op-same}
 use Rattle.customize_subs.proofs.steps.enter_kind.Statement.{statement}
 use Rattle.customize_subs.proofs.steps.enter_kind.Tie as tie
 

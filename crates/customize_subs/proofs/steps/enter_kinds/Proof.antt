@@ -2,7 +2,7 @@
 use borrow.Author.Rules.{rules}
 use Prim.Native.Nat.{◌-◌}
 use lib.ListN.{set}
-use Rattle.customize_subs.specs.CustomizingLaws.{entered-none, entered-one}
+use Rattle.customize_subs.proofs.CustomizingLaws.{entered-none, entered-one}
 use Rattle.customize_subs.proofs.steps.enter_kinds.Statement.{statement}
 use Rattle.customize_subs.proofs.steps.enter_kinds.Tie as tie
 

@@ -2,7 +2,7 @@
 use borrow.Author.Rules.{rules}
 use Prim.Native.Nat.{◌-◌}
 use lib.ListN.{set}
-use Rattle.customize_subs.specs.CustomizingLaws.{entered-six}
+use Rattle.customize_subs.proofs.CustomizingLaws.{entered-six}
 use Rattle.customize_subs.proofs.steps.enter_normal.Statement.{statement}
 use Rattle.customize_subs.proofs.steps.enter_normal.Tie as tie
 

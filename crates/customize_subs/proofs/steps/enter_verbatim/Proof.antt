@@ -2,7 +2,7 @@
 use borrow.Author.Rules.{rules}
 use Prim.Native.Nat.{◌-◌}
 use lib.ListN.{set}
-use Rattle.customize_subs.specs.CustomizingLaws.{entered-two}
+use Rattle.customize_subs.proofs.CustomizingLaws.{entered-two}
 use Rattle.substitutions.specs.Kinds.{number_of}
 use Rattle.customize_subs.proofs.steps.enter_verbatim.Statement.{statement}
 use Rattle.customize_subs.proofs.steps.enter_verbatim.Tie as tie

@@ -5,7 +5,7 @@ use native.Mathlib.Omega.{arith}
 use mathlib.Core.Path.{sym, ap, ◌∙◌}
 use lib.Dec.{eqb}
 use Rattle.put_rows.proofs.GroupRows.{stop-hash, stop-percent, stop-dots, stop-not}
-use Rattle.runs.specs.NamesLaws.{kind-of, kind-not, one-is}
+use Rattle.runs.proofs.NamesLaws.{kind-of, kind-not, one-is}
 use Rattle.token.specs.Line.{line_of, token_at}
 use Rattle.put_rows.proofs.shorthand.is_stop.Statement.{statement}
 use Rattle.put_rows.proofs.shorthand.is_stop.Tie as tie

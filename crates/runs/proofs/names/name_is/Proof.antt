@@ -5,7 +5,7 @@ use mathlib.Core.Path.{sym, ◌∙◌}
 use Rattle.token.specs.Line.{token_at}
 use Rattle.runs.proofs.Naming.{Naming, naming-start, naming-skip, naming-space, naming-differs, naming-on, naming-end}
 use borrow.Author.Tests.{not-true, not-false}
-use Rattle.runs.specs.NamesLaws.{lexeme-length}
+use Rattle.runs.proofs.NamesLaws.{lexeme-length}
 use Rattle.runs.proofs.names.name_is.Statement.{statement}
 use Rattle.runs.proofs.names.name_is.Tie as tie
 

@@ -4,7 +4,7 @@ use native.Mathlib.Omega.{arith}
 use mathlib.Core.Path.{refl}
 use Rattle.runs.proofs.Ranges.{Left, left-start, left-skip, left-done, left_end}
 use Rattle.runs.specs.Places.{all}
-use Rattle.runs.specs.PlacesLaws.{starts-place}
+use Rattle.runs.proofs.PlacesLaws.{starts-place}
 use Rattle.runs.proofs.steps.skip_attr_refs.Statement.{statement}
 use Rattle.runs.proofs.steps.skip_attr_refs.Tie as tie
 

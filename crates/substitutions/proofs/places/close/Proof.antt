@@ -4,7 +4,7 @@ use Prim.Native.Nat.{◌-◌, ◌<◌}
 use native.Mathlib.Omega.{arith}
 use mathlib.Core.Path.{◌≡◌, refl, ◌∙◌}
 use lib.ListN.{length, length-set}
-use Rattle.substitutions.specs.PlacesLaws.{closed-next, closed-last}
+use Rattle.substitutions.proofs.PlacesLaws.{closed-next, closed-last}
 use Rattle.substitutions.specs.Loops.{closed}
 use Rattle.substitutions.proofs.places.close.Statement.{statement}
 use Rattle.substitutions.proofs.places.close.Tie as tie

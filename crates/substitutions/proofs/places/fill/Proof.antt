@@ -7,7 +7,7 @@ use mathlib.Core.Path.{◌≡◌, sym, ◌∙◌}
 use mathlib.Core.List.{◌++◌}
 use lib.ListN.{length, take, drop}
 use Rattle.substitutions.specs.Moves.{filled}
-use Rattle.substitutions.specs.PlacesLaws.{filled-start, filled-here, filled_next, filled-done}
+use Rattle.substitutions.proofs.PlacesLaws.{filled-start, filled-here, filled_next, filled-done}
 use Rattle.substitutions.proofs.places.fill.Statement.{statement}
 use Rattle.substitutions.proofs.places.fill.Tie as tie
 

@@ -7,7 +7,7 @@ use mathlib.Core.Path.{◌≡◌, sym, ◌∙◌}
 use mathlib.Core.List.{◌++◌}
 use lib.ListN.{length, take, drop, length-set}
 use Rattle.substitutions.specs.Moves.{led}
-use Rattle.substitutions.specs.PlacesLaws.{pushed-is, pushed-here, pushed-next, pushed-done}
+use Rattle.substitutions.proofs.PlacesLaws.{pushed-is, pushed-here, pushed-next, pushed-done}
 use Rattle.substitutions.specs.Loops.{pushed}
 use Rattle.substitutions.proofs.places.lead.Statement.{statement}
 use Rattle.substitutions.proofs.places.lead.Tie as tie

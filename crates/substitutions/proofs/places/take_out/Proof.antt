@@ -6,7 +6,7 @@ use mathlib.Core.Path.{◌≡◌, refl, sym, ◌∙◌}
 use mathlib.Core.List.{◌++◌}
 use lib.ListN.{length, take, drop}
 use Rattle.substitutions.specs.Moves.{without}
-use Rattle.substitutions.specs.PlacesLaws.{without-here, without-next, without-done}
+use Rattle.substitutions.proofs.PlacesLaws.{without-here, without-next, without-done}
 use Rattle.substitutions.proofs.places.take_out.Statement.{statement}
 use Rattle.substitutions.proofs.places.take_out.Tie as tie
 

@@ -2,7 +2,7 @@
 use Prim.Native.Nat.{◌-◌}
 use mathlib.Core.Path.{sym}
 use Rattle.substitutions.specs.Loops.{few}
-use Rattle.substitutions.specs.AnswersLaws.{few-not}
+use Rattle.substitutions.proofs.AnswersLaws.{few-not}
 use Rattle.substitutions.proofs.rules.at_most_one.Statement.{statement}
 use Rattle.substitutions.proofs.rules.at_most_one.Tie as tie
 

@@ -5,7 +5,7 @@ use native.Mathlib.Omega.{arith}
 use mathlib.Core.Path.{◌≡◌, refl, ◌∙◌}
 use lib.ListN.{length, drop}
 use Rattle.substitutions.specs.Held.{empty}
-use Rattle.substitutions.specs.HeldLaws.{empty-here, empty-next, empty-end}
+use Rattle.substitutions.proofs.HeldLaws.{empty-here, empty-next, empty-end}
 use Rattle.substitutions.proofs.rules.rest_empty.Statement.{statement}
 use Rattle.substitutions.proofs.rules.rest_empty.Tie as tie
 

@@ -6,8 +6,8 @@ use native.Mathlib.Omega.{arith}
 use mathlib.Core.Path.{◌≡◌, refl, sym, ◌∙◌}
 use lib.ListN.{length, get_or, drop}
 use borrow.Author.Tests.{not-true, not-false}
-use Rattle.substitutions.specs.KindsLaws.{flag-within}
-use Rattle.substitutions.specs.HeldLaws.{left-empty, left_over, left-bare, left-next, left_end}
+use Rattle.substitutions.proofs.KindsLaws.{flag-within}
+use Rattle.substitutions.proofs.HeldLaws.{left-empty, left_over, left-bare, left-next, left_end}
 use Rattle.substitutions.specs.Loops.{left}
 use Rattle.substitutions.proofs.rules.take_flags.Statement.{statement}
 use Rattle.substitutions.proofs.rules.take_flags.Tie as tie

@@ -4,8 +4,8 @@ use Prim.Native.Nat.{◌-◌}
 use native.Mathlib.Omega.{arith}
 use mathlib.Core.Path.{sym, ◌∙◌}
 use lib.ListN.{set}
-use Rattle.substitutions.specs.KindsLaws.{flag-fits}
-use Rattle.substitutions.specs.AnswersLaws.{insert-none, insert-one}
+use Rattle.substitutions.proofs.KindsLaws.{flag-fits}
+use Rattle.substitutions.proofs.AnswersLaws.{insert-none, insert-one}
 use Rattle.substitutions.proofs.unchecked.insert.Statement.{statement}
 use Rattle.substitutions.proofs.unchecked.insert.Tie as tie
 

@@ -4,8 +4,8 @@ use Prim.Native.Nat.{◌-◌}
 use native.Mathlib.Omega.{arith}
 use mathlib.Core.Path.{sym, ◌∙◌}
 use lib.ListN.{set}
-use Rattle.substitutions.specs.KindsLaws.{flag-fits}
-use Rattle.substitutions.specs.AnswersLaws.{prepend-flagged, prepend-new}
+use Rattle.substitutions.proofs.KindsLaws.{flag-fits}
+use Rattle.substitutions.proofs.AnswersLaws.{prepend-flagged, prepend-new}
 use Rattle.substitutions.proofs.unchecked.prepend.Statement.{statement}
 use Rattle.substitutions.proofs.unchecked.prepend.Tie as tie
 

@@ -5,8 +5,8 @@ use native.Mathlib.Omega.{arith}
 use mathlib.Core.Path.{sym, ◌∙◌}
 use lib.ListN.{set}
 use borrow.Author.Tests.{not-true, not-false}
-use Rattle.substitutions.specs.KindsLaws.{flag-within}
-use Rattle.substitutions.specs.AnswersLaws.{remove-none, remove-one}
+use Rattle.substitutions.proofs.KindsLaws.{flag-within}
+use Rattle.substitutions.proofs.AnswersLaws.{remove-none, remove-one}
 use Rattle.substitutions.proofs.unchecked.remove.Statement.{statement}
 use Rattle.substitutions.proofs.unchecked.remove.Tie as tie
 

@@ -10,10 +10,10 @@ use Rattle.substitutions.specs.declared.Mode.{Mode}
 use Rattle.substitutions.specs.declared.Mode.TheVariants.{Port, Sheet}
 use Rattle.substitutions.specs.Held.{held, sound}
 use Rattle.substitutions.specs.Moves.{empty_set, room, refusal_of}
-use Rattle.substitutions.specs.KindsLaws.{and_left, and_right}
-use Rattle.substitutions.specs.MovesLaws.{insert-held, remove-held, prepend-held, insert-sound, remove-sound, prepend-sound, sound-held}
-use Rattle.substitutions.specs.StartingLaws.{none-sound}
-use Rattle.substitutions.specs.AnswersLaws.{accepted}
+use Rattle.substitutions.proofs.KindsLaws.{and_left, and_right}
+use Rattle.substitutions.proofs.MovesLaws.{insert-held, remove-held, prepend-held, insert-sound, remove-sound, prepend-sound, sound-held}
+use Rattle.substitutions.proofs.StartingLaws.{none-sound}
+use Rattle.substitutions.proofs.AnswersLaws.{accepted}
 use Rattle.subs_names.specs.declared.StepOrGroup.{StepOrGroup}
 use Rattle.subs_names.specs.declared.StepOrGroup.TheVariants.{None, Normal, Verbatim, SpecialChars, Callouts, Quotes, Attributes, Replacements, Macros, PostReplacements}
 use Rattle.subs_names.specs.declared.Lookup.{Lookup}
@@ -23,7 +23,7 @@ use Rattle.customize_subs.specs.declared.Strategy.TheVariants.{Insert, Prepend, 
 use Rattle.subs_names.specs.Names.{lookup_of}
 use Rattle.customize_subs.specs.Text.{split, modified}
 use Rattle.customize_subs.specs.Customizing.{part_of, move_of, kinds_of, entered, entered_name, strategy_of, name_of, stepped, through, start_of, meta_of, meta_refusal}
-use Rattle.customize_subs.specs.CustomizingLaws.{set-accepted}
+use Rattle.customize_subs.proofs.CustomizingLaws.{set-accepted}
 
 -- Every name stands for kinds of 1 to 7.
 unfoldable pub kinds : List ℕ → Bool

@@ -12,22 +12,22 @@ use Rattle.token.specs.Line.{Line, check, refusal}
 use Rattle.row.specs.Row.{width, room_for, with_rows}
 use Rattle.delimiters.specs.Divide as divide
 use Rattle.delimiters.specs.Delimit as delimit
-use Rattle.delimiters.specs.CountLaws.{counts, count-first}
-use Rattle.delimiters.specs.DivideLaws.{divided, attributes-none}
+use Rattle.delimiters.proofs.CountLaws.{counts, count-first}
+use Rattle.delimiters.proofs.DivideLaws.{divided, attributes-none}
 use Rattle.closing.specs.declared.Closing.{Closing}
 use Rattle.closing.specs.declared.Closing.TheVariants.{At, Nowhere}
 use Rattle.closing.specs.declared.LinkMacro.{LinkMacro}
 use Rattle.closing.specs.declared.LinkMacro.TheVariants.{AsList, AsText}
 use Rattle.closing.specs.Closing.{closing}
 use Rattle.closing.specs.Link.{link_macro}
-use Rattle.closing.specs.ClosingLaws.{Closed, closing-closes, closes-bracket}
+use Rattle.closing.proofs.ClosingLaws.{Closed, closing-closes, closes-bracket}
 use Rattle.attr_list.specs.Entry.{Entry, Block, BlockMacro, Inline, Link, is_block, full_line}
 use Rattle.list_rows.specs.ListRows.{rows_from, list_rows}
 use Rattle.attr_list.specs.Reading.{Reading, refused, gives, answer_of, buffer_of, list_to, link_to, read_by, unless_closed, lent_refusal, unless_refused, reading}
 use Rattle.attr_list.specs.ReadAsList.{TakenAsList, ClosedAt, ReadAsList}
 use Rattle.attr_list.specs.Outcome.{WhenReadAsList}
-use Rattle.list_rows.specs.ListRowsLaws.{list-few}
-use Rattle.attr_list.specs.Laws.{bracket-closes, rows-in-front, others-after}
+use Rattle.list_rows.proofs.ListRowsLaws.{list-few}
+use Rattle.attr_list.proofs.Laws.{bracket-closes, rows-in-front, others-after}
 
 -- ---- a line that 1 to 7 do not refuse has a token, and its buffer has room
 

@@ -9,20 +9,20 @@ use Rattle.token.specs.Kind.{close_bracket, kind_at}
 use Rattle.token.specs.Line.{Line}
 use Rattle.row.specs.declared.Row.{Row}
 use Rattle.row.specs.Row.{width, all_numbers, with_rows}
-use Rattle.delimiters.specs.CountLaws.{count-first}
-use Rattle.delimiters.specs.DivideLaws.{attributes-are, attributes-none}
+use Rattle.delimiters.proofs.CountLaws.{count-first}
+use Rattle.delimiters.proofs.DivideLaws.{attributes-are, attributes-none}
 use Rattle.closing.specs.declared.LinkMacro.TheVariants.{AsList}
 use Rattle.closing.specs.Closing.{closing}
 use Rattle.closing.specs.Link.{link_macro}
-use Rattle.closing.specs.ClosingLaws.{closes-closing}
+use Rattle.closing.proofs.ClosingLaws.{closes-closing}
 use Rattle.attr_list.specs.Entry.{Entry, Block, BlockMacro, Inline, Link, is_block, full_line}
 use Rattle.attr_list.specs.declared.Answer.TheVariants.{Read}
 use Rattle.list_rows.specs.ListRows.{rows_from, list_rows}
 use Rattle.attr_list.specs.Reading.{Reading, gives, Gives, list_to, link_to, read_by, unless_closed, unless_refused, reading}
 use Rattle.attr_list.specs.ReadAsList.{TakenAsList, rows_of_attributes, ReadAsList}
-use Rattle.list_rows.specs.ListRowsLaws.{list-few}
-use Rattle.attr_list.specs.Laws.{in-front}
-use Rattle.attr_list.specs.ReadAsListLaws.{accepts}
+use Rattle.list_rows.proofs.ListRowsLaws.{list-few}
+use Rattle.attr_list.proofs.Laws.{in-front}
+use Rattle.attr_list.proofs.ReadAsListLaws.{accepts}
 
 -- a buffer is the rows at its front and what stood behind them
 rows_left : (given left : List ℕ) (rs : List Row) (n : ℕ) → n ≡ length rs → width * length rs ≤ length given → take (width * n) left ≡ all_numbers rs → drop (width * n) left ≡ drop (width * n) given → left ≡ with_rows given 0 rs

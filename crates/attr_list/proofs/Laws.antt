@@ -7,11 +7,11 @@ use Rattle.std.proofs.Math.Seq.{sets-eq}
 use Rattle.token.specs.Kind.{close_bracket, kind_at}
 use Rattle.row.specs.declared.Row.{Row}
 use Rattle.row.specs.Row.{width, all_numbers, with_rows}
-use Rattle.row.specs.Laws.{numbers-length}
+use Rattle.row.proofs.Laws.{numbers-length}
 use Rattle.delimiters.specs.Count.{counted}
 use Rattle.delimiters.specs.Divide.{Closes}
-use Rattle.delimiters.specs.CountLaws.{count-some}
-use Rattle.closing.specs.ClosingLaws.{IsBracket}
+use Rattle.delimiters.proofs.CountLaws.{count-some}
+use Rattle.closing.proofs.ClosingLaws.{IsBracket}
 
 -- ---- the rows in the buffer
 

@@ -6,9 +6,9 @@ use Rattle.substitutions.specs.declared.Substitutions.{Substitutions}
 use Rattle.substitutions.specs.Kinds.{flagged, one, sum}
 use Rattle.substitutions.specs.Held.{times, small, empty, packed, spare, spares, held, sound}
 use Rattle.substitutions.specs.HeldPlaces.{place, Spare, HeldSet, SoundSet}
-use Rattle.substitutions.specs.KindsLaws.{and_left, and_right, and_both, one-le}
-use Rattle.substitutions.specs.HeldLaws.{Facts, facts, held_of, times-cons}
-use Rattle.substitutions.specs.MovesLaws.{empty-packed, sound-held, sound-spares}
+use Rattle.substitutions.proofs.KindsLaws.{and_left, and_right, and_both, one-le}
+use Rattle.substitutions.proofs.HeldLaws.{Facts, facts, held_of, times-cons}
+use Rattle.substitutions.proofs.MovesLaws.{empty-packed, sound-held, sound-spares}
 
 -- Tests of every place, at one of them; and from every one.
 small_at : (l : List ℕ) (i : ℕ) → small l ≡ true → get_or l i 0 ≤ 7

@@ -10,11 +10,11 @@ use Rattle.substitutions.specs.Kinds.{flagged, one}
 use Rattle.substitutions.specs.Held.{times, sound}
 use Rattle.substitutions.specs.Moves.{empty_set, insert_of}
 use Rattle.substitutions.specs.Order.{order_of, set_of}
-use Rattle.substitutions.specs.KindsLaws.{and_left, and_right}
-use Rattle.substitutions.specs.HeldLaws.{times-cons}
-use Rattle.substitutions.specs.MovesLaws.{sound-held}
-use Rattle.substitutions.specs.StartingLaws.{none-sound}
-use Rattle.substitutions.specs.OrderLaws.{others, insert-seven, remove-others, prepend-first, sound-set, sound-times}
+use Rattle.substitutions.proofs.KindsLaws.{and_left, and_right}
+use Rattle.substitutions.proofs.HeldLaws.{times-cons}
+use Rattle.substitutions.proofs.MovesLaws.{sound-held}
+use Rattle.substitutions.proofs.StartingLaws.{none-sound}
+use Rattle.substitutions.proofs.OrderLaws.{others, insert-seven, remove-others, prepend-first, sound-set, sound-times}
 use Rattle.subs_names.specs.declared.StepOrGroup.{StepOrGroup}
 use Rattle.subs_names.specs.declared.StepOrGroup.TheVariants.{None, Normal, Verbatim, SpecialChars, Callouts, Quotes, Attributes, Replacements, Macros, PostReplacements}
 use Rattle.subs_names.specs.declared.Lookup.{Lookup}
@@ -24,7 +24,7 @@ use Rattle.customize_subs.specs.declared.Strategy.{Strategy}
 use Rattle.customize_subs.specs.declared.Strategy.TheVariants.{Insert, Prepend, Remove}
 use Rattle.customize_subs.specs.Text.{split, spaced, modified, first_of, last_of}
 use Rattle.customize_subs.specs.Customizing.{move_of, kinds_of, entered, entered_name, strategy_of, name_of, stepped, through, start_of, meta_of}
-use Rattle.customize_subs.specs.MetaLaws.{kinds, kinds-right, moves-sound}
+use Rattle.customize_subs.proofs.MetaLaws.{kinds, kinds-right, moves-sound}
 use Rattle.customize_subs.specs.Sheet.{steps_of, has, take_out, put_last, put_first, in_turn, appended, prepended, removed, by_name, on_part, on_parts, sheet_order}
 
 -- A step is there exactly when it has a place.

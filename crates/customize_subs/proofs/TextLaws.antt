@@ -13,7 +13,7 @@ use Rattle.std.proofs.Math.Dec.{leb-suc-suc}
 use Rattle.std.proofs.Math.ListN.{length, take, get_or, length-drop}
 use Rattle.std.proofs.Math.Seq.{drop-cons}
 use Rattle.substitutions.specs.Kinds.{one}
-use Rattle.substitutions.specs.KindsLaws.{bool_eq}
+use Rattle.substitutions.proofs.KindsLaws.{bool_eq}
 use Rattle.customize_subs.specs.Text.{on_first, split, front, blank, back, modified}
 use Rattle.customize_subs.specs.Places.{to_comma, is_modifier, between, parts_from}
 

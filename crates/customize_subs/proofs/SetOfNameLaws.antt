@@ -10,7 +10,7 @@ use Rattle.substitutions.specs.Kinds.{flag_of, flagged}
 use Rattle.substitutions.specs.Held.{held}
 use Rattle.substitutions.specs.Moves.{set, empty_set, filled, insert_of}
 use Rattle.substitutions.specs.HeldPlaces.{HeldSet, place}
-use Rattle.substitutions.specs.HeldPlacesLaws.{held-read}
+use Rattle.substitutions.proofs.HeldPlacesLaws.{held-read}
 use Rattle.subs_names.specs.declared.StepOrGroup.{StepOrGroup}
 use Rattle.subs_names.specs.declared.StepOrGroup.TheVariants.{None, Normal, Verbatim, SpecialChars, Callouts, Quotes, Attributes, Replacements, Macros, PostReplacements}
 use Rattle.customize_subs.specs.declared.Strategy.{Strategy}

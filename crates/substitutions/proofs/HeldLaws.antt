@@ -9,7 +9,7 @@ use Rattle.std.proofs.Math.Dec.{eqb-suc-zero}
 use Rattle.substitutions.specs.declared.Substitutions.{Substitutions}
 use Rattle.substitutions.specs.Kinds.{flag_of, flagged, one, sum}
 use Rattle.substitutions.specs.Held.{times, small, empty, packed, once, covered, spare, spares, held, sound}
-use Rattle.substitutions.specs.KindsLaws.{and_left, and_right, and_both, bool_eq, each_at, each_all, sum_same, sum-add, one-le, bit, flags, cleared, few-is, none_is}
+use Rattle.substitutions.proofs.KindsLaws.{and_left, and_right, and_both, bool_eq, each_at, each_all, sum_same, sum-add, one-le, bit, flags, cleared, few-is, none_is}
 use Rattle.substitutions.specs.Loops.{few}
 use Rattle.substitutions.specs.Loops.{left, unclaimed_flags, few}
 

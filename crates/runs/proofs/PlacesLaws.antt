@@ -6,7 +6,7 @@ use Rattle.token.specs.Kind.{attr_ref}
 use Rattle.token.specs.Line.{Line, Token, line_of, run, empty_run}
 use Rattle.runs.specs.Run.{kept, onward, run_of, first_place}
 use Rattle.runs.specs.Places.{Ends, FoundIn, StartsAt}
-use Rattle.runs.specs.KeptLaws.{kept-none, kept-first, place_is, run_ends, run_none}
+use Rattle.runs.proofs.KeptLaws.{kept-none, kept-first, place_is, run_ends, run_none}
 
 first-here : (l : Line) (to r : ℕ) → r ≤ to → (r < to → get_or l.kinds r 0 ≡ attr_ref → ⊥) → r ≡ first_place to (kept l r to)
 unfolding first_place

@@ -9,8 +9,8 @@ use Rattle.substitutions.specs.declared.Mode.TheVariants.{Port, Sheet}
 use Rattle.substitutions.specs.Kinds.{flag_of, flagged}
 use Rattle.substitutions.specs.Held.{held, sound, empty}
 use Rattle.substitutions.specs.Moves.{set, filled, without, led, insert_of, remove_of, prepend_of, refusal_of, answer}
-use Rattle.substitutions.specs.KindsLaws.{and_left, and_right}
-use Rattle.substitutions.specs.HeldLaws.{held-is, sound-is}
+use Rattle.substitutions.proofs.KindsLaws.{and_left, and_right}
+use Rattle.substitutions.proofs.HeldLaws.{held-is, sound-is}
 use Rattle.substitutions.specs.Loops.{left, unclaimed_flags, few, normal_places}
 
 pub few-not : (f : ℕ) → (f ≡ 0 → ⊥) → (f ≡ 1 → ⊥) → (f ≡ 2 → ⊥) → (f ≡ 4 → ⊥) → (f ≡ 8 → ⊥) → (f ≡ 16 → ⊥) → (f ≡ 32 → ⊥) → (f ≡ 64 → ⊥)

@@ -8,9 +8,9 @@ use Rattle.substitutions.specs.declared.Mode.TheVariants.{Port, Sheet}
 use Rattle.substitutions.specs.Held.{held, sound}
 use Rattle.substitutions.specs.Moves.{answer}
 use Rattle.customize_subs.specs.Customizing.{meta_of, meta_refusal, meta_answer, port_meta, sheet_meta}
-use Rattle.customize_subs.specs.CustomizingLaws.{set-accepted}
-use Rattle.customize_subs.specs.MetaLaws.{meta-held, meta-sound, sheet-sound}
-use Rattle.customize_subs.specs.SheetLaws.{sheet-set}
+use Rattle.customize_subs.proofs.CustomizingLaws.{set-accepted}
+use Rattle.customize_subs.proofs.MetaLaws.{meta-held, meta-sound, sheet-sound}
+use Rattle.customize_subs.proofs.SheetLaws.{sheet-set}
 use Rattle.customize_subs.specs.Outcome.{PortOutcome, SheetOutcome}
 
 -- What is answered where nothing is refused.

@@ -16,10 +16,10 @@ use Rattle.substitutions.specs.Moves.{set, filled, without, led, insert_of, remo
 unfoldable pub use Rattle.substitutions.specs.Order.{order_of}
 use Rattle.substitutions.specs.Order.{flags_of, set_of}
 use Rattle.substitutions.specs.Loops.{left, unclaimed_flags}
-use Rattle.substitutions.specs.KindsLaws.{and_left, and_right, one-le, each_at, bit, added, flag-within}
-use Rattle.substitutions.specs.HeldLaws.{facts, times-cons, left-good, sound-is}
-use Rattle.substitutions.specs.AnswersLaws.{left-small}
-use Rattle.substitutions.specs.MovesLaws.{count, count-cons, empty-all, take-empty, without-out, without-packed, without-length, without-count, absent, unplaced-count, sound-held}
+use Rattle.substitutions.proofs.KindsLaws.{and_left, and_right, one-le, each_at, bit, added, flag-within}
+use Rattle.substitutions.proofs.HeldLaws.{facts, times-cons, left-good, sound-is}
+use Rattle.substitutions.proofs.AnswersLaws.{left-small}
+use Rattle.substitutions.proofs.MovesLaws.{count, count-cons, empty-all, take-empty, without-out, without-packed, without-length, without-count, absent, unplaced-count, sound-held}
 
 -- The kinds of a list other than k.
 unfoldable pub others : ℕ → List ℕ → List ℕ

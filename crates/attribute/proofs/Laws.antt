@@ -8,7 +8,7 @@ use mathlib.Core.List.{List, [], ◌∷◌}
 use Rattle.std.proofs.Math.ListN.{length}
 use Rattle.token.specs.Line.{Token}
 use Rattle.runs.specs.Run.{is_comma, is_whitespace, is_equals, of_one, up_to, onward, trim, quoted, inside, front, unquote}
-use Rattle.runs.specs.KeptLaws.{onward-later, unquote-plain}
+use Rattle.runs.proofs.KeptLaws.{onward-later, unquote-plain}
 use Rattle.row.specs.Row.{positional}
 use Rattle.attr_ir.specs.declared.Reading.{Reading}
 use Rattle.attr_ir.specs.declared.Reading.TheVariants.{Shorthand, Positional, Named}
@@ -19,7 +19,7 @@ use Rattle.attr_ir.specs.Look.{is_symbol, is_quote, next_equals, symbol_sight, s
 use Rattle.attr_ir.specs.Ir.{shorthand, name_tokens, less_first, less_space, value, value_tokens, name_of, named_ir, key_value_ir, ir_as, attr_ir}
 use Rattle.attr_ir.specs.Ir as is
 use Rattle.put_rows.specs.Rows.{Read, row_first, pieces}
-use Rattle.put_rows.specs.RowsLaws.{cut-length, trim-length, onward-length, group-few, pieces-few, shorthand-few, id-few}
+use Rattle.put_rows.proofs.RowsLaws.{cut-length, trim-length, onward-length, group-few, pieces-few, shorthand-few, id-few}
 use Rattle.attribute.specs.Attribute.{cut_read, ir_read, reading, attribute_in, attribute}
 use Rattle.attribute.specs.Outcome.{or_one}
 

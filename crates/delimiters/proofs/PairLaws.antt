@@ -11,8 +11,8 @@ use Rattle.token.specs.Kind.{comma, kind_at}
 use Rattle.delimiters.specs.Count.{counted, Quote, quote_kind}
 use Rattle.delimiters.specs.Delimit.{State, stretches, at_comma, after}
 use Rattle.delimiters.specs.Pairs.{before, Between, OneBetween, Pair, Inside}
-use Rattle.delimiters.specs.StepLaws.{other_quote, same-or-other, quotes-apart, comma-apart, after-comma, after-second, before-one, Turn, pushed, kept, cut, turn, Open, none, since, open_at}
-use Rattle.delimiters.specs.CommaLaws.{ascending-at, ascends}
+use Rattle.delimiters.proofs.StepLaws.{other_quote, same-or-other, quotes-apart, comma-apart, after-comma, after-second, before-one, Turn, pushed, kept, cut, turn, Open, none, since, open_at}
+use Rattle.delimiters.proofs.CommaLaws.{ascending-at, ascends}
 
 -- ---- a counted comma that is inside no complete pair stays to the end
 

@@ -7,13 +7,13 @@ use Rattle.token.specs.Kind.{close_bracket, kind_at}
 use Rattle.delimiters.specs.Count.{counted}
 use Rattle.delimiters.specs.Delimit.{dividing}
 use Rattle.delimiters.specs.Divide.{Ascending}
-use Rattle.delimiters.specs.CountLaws.{counts}
-use Rattle.delimiters.specs.DivideLaws.{dividing-ascend}
+use Rattle.delimiters.proofs.CountLaws.{counts}
+use Rattle.delimiters.proofs.DivideLaws.{dividing-ascend}
 use Rattle.closing.specs.declared.Closing.{Closing}
 use Rattle.closing.specs.declared.Closing.TheVariants.{At, Nowhere}
 use Rattle.closing.specs.Closing.{at, last_bracket, next_bracket, last_begins, closing}
 use Rattle.closing.specs.Closes.{Found, FoundLast, ClosesList}
-use Rattle.closing.specs.Laws.{next-found, next-is, last-here, last_found}
+use Rattle.closing.proofs.Laws.{next-found, next-is, last-here, last_found}
 
 -- ---- where the last attribute begins
 

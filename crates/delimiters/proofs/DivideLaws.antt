@@ -8,10 +8,10 @@ use Rattle.delimiters.specs.Count.{counted, Quote, double, single}
 use Rattle.delimiters.specs.Delimit.{start, after, dividing, Stretch, parted, attributes}
 use Rattle.delimiters.specs.Pairs.{Pair, OneBetween, Inside, Uncrossed}
 use Rattle.delimiters.specs.Divide.{times, covers, Ascending, how_many, Follow, Divides, Closes, Divided}
-use Rattle.delimiters.specs.CountLaws.{bracket-past, count-some}
-use Rattle.delimiters.specs.StepLaws.{other_quote}
-use Rattle.delimiters.specs.CommaLaws.{ascending-to, ascending-length, ascending-at, ascends, comma-at, part-once, parted-length}
-use Rattle.delimiters.specs.PairLaws.{stays, gone}
+use Rattle.delimiters.proofs.CountLaws.{bracket-past, count-some}
+use Rattle.delimiters.proofs.StepLaws.{other_quote}
+use Rattle.delimiters.proofs.CommaLaws.{ascending-to, ascending-length, ascending-at, ascends, comma-at, part-once, parted-length}
+use Rattle.delimiters.proofs.PairLaws.{stays, gone}
 
 -- ---- the dividing commas: they ascend and are counted; none where nothing is counted
 

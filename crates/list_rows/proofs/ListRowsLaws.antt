@@ -5,15 +5,15 @@ use Rattle.token.specs.Line.{Line, Token, tokens}
 use Rattle.runs.specs.Run.{is_attr_ref, without, kept}
 use Rattle.row.specs.declared.Row.{Row}
 use Rattle.row.specs.Row.{Wrote}
-use Rattle.row.specs.Laws.{Writes, writes_start, writes-part, writes-wrote}
+use Rattle.row.proofs.Laws.{Writes, writes_start, writes-part, writes-wrote}
 use Rattle.delimiters.specs.Count.{counted}
 use Rattle.delimiters.specs.Delimit.{Stretch, dividing, parted}
 use Rattle.delimiters.specs.Divide.{Ascending}
-use Rattle.delimiters.specs.CommaLaws.{ascending-end, ascending-next, parted-next}
-use Rattle.delimiters.specs.DivideLaws.{dividing-ascend-to, attributes-none, attributes-some}
+use Rattle.delimiters.proofs.CommaLaws.{ascending-end, ascending-next, parted-next}
+use Rattle.delimiters.proofs.DivideLaws.{dividing-ascend-to, attributes-none, attributes-some}
 use Rattle.put_rows.specs.Rows.{Read}
 use Rattle.attribute.specs.Attribute.{attribute}
-use Rattle.attribute.specs.Laws.{rows_few}
+use Rattle.attribute.proofs.Laws.{rows_few}
 use Rattle.attribute.specs.Outcome.{or_one}
 use Rattle.list_rows.specs.ListRows.{rows_from, list_rows}
 

@@ -11,7 +11,7 @@ use borrow.Author.Tests.{lt-ltb, le-ltb, le-leb, lt-leb, eq-eqb, ne_eqb}
 use Rattle.token.specs.Kind.{comma, kind_at}
 use Rattle.delimiters.specs.Delimit.{start, after, Stretch, parted}
 use Rattle.delimiters.specs.Divide.{times, covers, Ascending}
-use Rattle.delimiters.specs.StepLaws.{Turn, pushed, kept, cut, turn}
+use Rattle.delimiters.proofs.StepLaws.{Turn, pushed, kept, cut, turn}
 
 -- ---- places that ascend
 

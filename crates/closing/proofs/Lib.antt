@@ -1,0 +1,4 @@
+pub mod Examples
+pub mod Laws
+pub mod ClosingLaws
+pub mod LinkLaws

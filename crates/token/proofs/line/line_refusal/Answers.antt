@@ -21,23 +21,27 @@ returns-then-text-gt-MOST_BYTES c = rw (ne_eqb _ _ c.if-tokens-eq0.false, le-ltb
 
 pub returns-then-pairs-tokens : goal.returns-then-pairs-tokens
 unfolding refusal
-returns-then-pairs-tokens c =    let a = c.args in
+returns-then-pairs-tokens c =
+    let a = c.args in
     rw (ne_eqb _ _ c.if-tokens-eq0.false, le-ltb _ _ c.if-tokens-most.false, le-ltb _ _ c.if-text-gt-MOST_BYTES.false, ne_eqb (length a.pairs.now) (2 * length a.kinds.now) (λ e. omega arith))
 
 pub returns-then-pairs-tokens-2 : goal.returns-then-pairs-tokens-2
 unfolding refusal
-returns-then-pairs-tokens-2 c =    let a = c.args in
+returns-then-pairs-tokens-2 c =
+    let a = c.args in
     rw (ne_eqb _ _ c.if-tokens-eq0.false, le-ltb _ _ c.if-tokens-most.false, le-ltb _ _ c.if-text-gt-MOST_BYTES.false, ne_eqb (length a.pairs.now) (2 * length a.kinds.now) (λ e. omega arith))
 
 pub returns-then-some_over : goal.returns-then-some_over
 unfolding refusal
-returns-then-some_over c =    let a = c.args in
+returns-then-some_over c =
+    let a = c.args in
     let if1 = c.if-tokens-eq0 in
     rw (ne_eqb _ _ if1.false, le-ltb _ _ c.if-tokens-most.false, le-ltb _ _ c.if-text-gt-MOST_BYTES.false, eq-eqb (length a.pairs.now) (2 * length a.kinds.now) (omega arith), sym c.some_over.ensures ∙ c.if-some_over.true)
 
 pub returns-then-some_misplaced : goal.returns-then-some_misplaced
 unfolding refusal
-returns-then-some_misplaced c =    let a = c.args in
+returns-then-some_misplaced c =
+    let a = c.args in
     let if1 = c.if-tokens-eq0 in
     let if2 = c.if-tokens-most in
     let if3 = c.if-text-gt-MOST_BYTES in
@@ -45,7 +49,8 @@ returns-then-some_misplaced c =    let a = c.args in
 
 pub returns : goal.returns
 unfolding refusal
-returns c =    let a = c.args in
+returns c =
+    let a = c.args in
     let if1 = c.if-tokens-eq0 in
     let if2 = c.if-tokens-most in
     let if3 = c.if-text-gt-MOST_BYTES in

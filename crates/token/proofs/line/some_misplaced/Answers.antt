@@ -15,12 +15,14 @@ pub length_of-requires : goal.length_of-requires
 length_of-requires c = omega (arith, c.requires)
 
 pub overflow_add-next : goal.overflow_add-next
-overflow_add-next c =    let shared-slice-known = c.shared_slice_known-1 in
+overflow_add-next c =
+    let shared-slice-known = c.shared_slice_known-1 in
     let l = c.loop-i in
     omega (arith, shared-slice-known.given (2 * l.i), shared-slice-known.given (2 * l.i + 1), c.offset_of-start.ensures, c.length_of.ensures)
 
 pub returns-then-start-end : goal.returns-then-start-end
-returns-then-start-end c =    let a = c.args in
+returns-then-start-end c =
+    let a = c.args in
     let p = c.requires in
     let l = c.loop-i in
     let offset-of-call = c.offset_of-start in
@@ -28,7 +30,8 @@ returns-then-start-end c =    let a = c.args in
     passed-before a.pairs.now l.i (omega (arith, p)) a.size l.end offset-of-call.result.0 length-of-call.result offset-of-call.ensures length-of-call.ensures c.if-start-end.true ∙ l.invariant.1
 
 pub loop-i-preserved : goal.loop-i-preserved
-loop-i-preserved c =    let a = c.args in
+loop-i-preserved c =
+    let a = c.args in
     let p = c.requires in
     let l = c.loop-i in
     let offset-of-call = c.offset_of-start in
@@ -36,6 +39,7 @@ loop-i-preserved c =    let a = c.args in
     (omega arith, passed-next a.pairs.now l.i (omega (arith, p)) a.size l.end offset-of-call.result.0 length-of-call.result offset-of-call.ensures length-of-call.ensures c.if-start-end.false ∙ l.invariant.1)
 
 pub returns : goal.returns
-returns c =    let a = c.args in
+returns c =
+    let a = c.args in
     let l = c.loop-i in
     passed-end a.pairs.now l.i a.size l.end (omega (arith, c.requires)) ∙ l.invariant.1

@@ -5,4 +5,4 @@ use Rattle.runs.proofs.Ranges.{first-starts}
 use Rattle.runs.proofs.first_kept.Goals as goal
 
 pub returns : goal.returns
-returns c = (c.skip_attr_refs.ensures, first-starts _ _ _ _ c.skip_attr_refs.ensures (omega arith))
+returns c = record { place = c.skip_attr_refs.ensures; part = first-starts _ _ _ _ c.skip_attr_refs.ensures (omega arith) }

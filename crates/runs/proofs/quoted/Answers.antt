@@ -6,7 +6,7 @@ use Rattle.runs.specs.Run.{quoted}
 use Rattle.runs.proofs.quoted.Goals as goal
 
 pub quotes_round-requires : goal.quotes_round-requires
-quotes_round-requires c = (omega (arith, c.run_of.ensures.1.within), c.run_of.ensures.1.ends)
+quotes_round-requires c = (omega (arith, c.run_of.ensures.part.within), c.run_of.ensures.part.ends)
 
 pub returns : goal.returns
-returns c = λ text pairs. c.quotes_round.ensures text pairs ∙ ap quoted (c.run_of.ensures.1.same text pairs)
+returns c = λ text pairs. c.quotes_round.ensures text pairs ∙ ap quoted (c.run_of.ensures.part.same text pairs)

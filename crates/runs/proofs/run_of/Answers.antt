@@ -4,4 +4,4 @@ use Rattle.runs.proofs.Ranges.{both-all, part-between, run-between-is}
 use Rattle.runs.proofs.run_of.Goals as goal
 
 pub returns : goal.returns
-returns c = let w = both-all _ _ _ _ _ c.first_kept-start.ensures.1 c.run_end-end.ensures in (run-between-is _ _ _ _ _ _ w.0 w.1 _ c.run_between.ensures, part-between _ _ _ _ _ _ w.0 w.1 _ c.run_between.ensures)
+returns c = let w = both-all _ _ _ _ _ c.first_kept-start.ensures.part c.run_end-end.ensures in  record { run = run-between-is _ _ _ _ _ _ w.0 w.1 _ c.run_between.ensures; part = part-between _ _ _ _ _ _ w.0 w.1 _ c.run_between.ensures }

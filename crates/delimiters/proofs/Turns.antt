@@ -7,7 +7,7 @@ use mathlib.Core.Path.{◌≡◌, refl, sym, ap, ◌∙◌}
 use mathlib.Core.List.{List, [], ◌∷◌, ◌++◌}
 use mathlib.Core.Logic.{◌⊎◌, inl, inr}
 use lib.ListN.{length, take, set, length-take, length-set}
-use lib.Seq.{take_all, length-take-le, take-suc-set}
+use lib.Seq.{take_all, take-take, length-take-le, take-suc-set}
 use borrow.Author.Tests.{eq-eqb, ne_eqb}
 use borrow.Author.Count.{below_more}
 use Rattle.token.specs.Kind.{close_bracket, comma, double_quote, single_quote, kind_at}
@@ -48,6 +48,17 @@ going_start kinds cs =
     zeros : (q : Quote) → notes 0 0 q ≡ 0
     zeros double = refl
     zeros single = refl
+
+-- one stretch is rejoined
+pub due-less : {t : State} {cs : List ℕ} {n : ℕ} {f : Quote → ℕ} {i remain : ℕ} → remain < n → Due t cs n f i remain → Due t cs (n - 1) f i remain
+due-less {t} {cs} {n} {f} {i} {remain} lt w =
+    record {
+      some = w.some;
+      few = omega (arith, w.few);
+      places = take-take (remain - 1) (n - 1 - 1) cs (omega (arith, w.some)) ∙ sym (take-take (remain - 1) (n - 1) cs (omega arith)) ∙ w.places;
+      noted = w.noted;
+      whole = omega (arith, w.some);
+    }
 
 -- no more than those remain: the token is counted
 pub due-done : {kinds cs cs₀ : List ℕ} {n n₀ : ℕ} {f g : Quote → ℕ} {i remain : ℕ} → n ≤ remain → i + 1 < length kinds → (kind_at kinds i ≡ close_bracket → ⊥) → Going kinds cs₀ n₀ g i → Due (after kinds (suc i)) cs n f i remain → Going kinds cs n f (i + 1)

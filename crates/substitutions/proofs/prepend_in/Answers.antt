@@ -1,0 +1,21 @@
+-- `prepend_in` refuses with the set given or gives what prepend gives. Assumes nothing.
+use Prim.Native.Nat.{◌-◌}
+use mathlib.Core.Path.{sym, ◌∙◌}
+use lib.ListN.{set}
+use Rattle.substitutions.specs.Kinds.{number_of}
+use Rattle.substitutions.specs.Moves.{prepend_of, refusal_of, prepend_answer}
+use Rattle.substitutions.proofs.AnswersLaws.{refused, moved_to}
+use Rattle.substitutions.proofs.prepend_in.Goals as goal
+
+pub returns-then-n-ne0 : goal.returns-then-n-ne0
+unfolding prepend_answer
+returns-then-n-ne0 c =
+    let a = c.args in
+    c.refused.ensures ∙ refused c.refusal-n.result (refusal_of a.mode a.set) a.set (prepend_of (number_of a.sub) a.set) c.refusal-n.ensures c.if-n-ne0.true
+
+pub returns : goal.returns
+unfolding prepend_answer
+returns c =
+    let a = c.args in
+    moved_to (refusal_of a.mode a.set) a.set c.prepend.result (prepend_of (number_of a.sub) a.set)
+    (sym c.refusal-n.ensures ∙ c.if-n-ne0.false) c.prepend.ensures

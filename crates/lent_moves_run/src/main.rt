@@ -6,6 +6,7 @@ ghost use Rattle.std.specs.Prelude.{◌≡◌, ◌≤◌};
 ghost use Rattle.substitutions.specs.Moves.{insert_answer, remove_answer, prepend_answer};
 
 use lent_moves::{insert_into, prepend_to, remove_from};
+use std::io;
 use substitutions::{
     Mode, SetAnswer, Subs, Substitutions, insert, insert_sheet, is_held, prepend, prepend_sheet,
     remove, remove_sheet,
@@ -215,16 +216,16 @@ fn over_places() -> Count
     }
 }
 
-fn main() {
+fn main(rt: HostRuntime) -> io::Result<()> {
     let count = over_places();
-    io::print_decimal(1, count.held);
-    io::write_all(1, b" held sets, ");
-    io::print_decimal(1, count.held * 42);
-    io::write_all(1, b" moves; ");
-    io::print_decimal(1, count.refused);
-    io::write_all(1, b" sets that are not held, ");
-    io::print_decimal(1, count.refused * 6);
-    io::write_all(1, b" moves; by value and on loan, ");
-    io::print_decimal(1, count.differ);
-    io::write_all(1, b" differ\n");
+    rt.print(count.held)?;
+    rt.write_all(b" held sets, ")?;
+    rt.print(count.held * 42)?;
+    rt.write_all(b" moves; ")?;
+    rt.print(count.refused)?;
+    rt.write_all(b" sets that are not held, ")?;
+    rt.print(count.refused * 6)?;
+    rt.write_all(b" moves; by value and on loan, ")?;
+    rt.print(count.differ)?;
+    rt.write_all(b" differ\n")
 }

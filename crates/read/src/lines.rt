@@ -2,6 +2,7 @@
 use super::one_line;
 use super::scan::{byte, find, onward, put, up};
 use super::show::{count, words};
+use std::io::{self, Read};
 
 // The most bytes of a line of the file. A line that the reader takes has fewer, with each byte written by four and the longest name of a kind before
 // each token.
@@ -41,63 +42,73 @@ fn without_return(buffer: &[u8], bytes: usize) -> usize {
 }
 
 // Tells of the line that is held and has ended, and goes on to the next.
-fn end_line(buffer: &[u8], held: Held) -> Held {
+fn end_line(rt: &impl Print, buffer: &[u8], held: Held) -> io::Result<Held> {
     if held.bytes > ROOM {
-        words(b"line ");
-        count(held.line);
-        words(b": over 400,000 bytes\n");
+        words(rt, b"line ")?;
+        count(rt, held.line)?;
+        words(rt, b": over 400,000 bytes\n")?;
     } else {
-        one_line(buffer, held.line, without_return(buffer, held.bytes));
+        one_line(rt, buffer, held.line, without_return(buffer, held.bytes))?;
     }
-    Held {
+    Ok(Held {
         bytes: 0,
         line: onward(held.line, 1, 999999999999),
-    }
+    })
 }
 
 // Takes the first `n` bytes of a chunk, and tells of each line that ends there.
-fn take_chunk(chunk: &[u8], n: usize, buffer: &mut [u8], held: Held) -> Held {
+fn take_chunk(
+    rt: &impl Print,
+    chunk: &[u8],
+    n: usize,
+    buffer: &mut [u8],
+    held: Held,
+) -> io::Result<Held> {
     let mut now = held;
     let mut at: usize = 0;
     while at < n {
         let end = find(chunk, at, n, b'\n');
         now = hold(chunk, at, end, buffer, now);
         if end >= n {
-            return now;
+            return Ok(now);
         }
-        now = end_line(buffer, now);
+        now = end_line(rt, buffer, now)?;
         if end < at {
-            return now;
+            return Ok(now);
         }
         at = end + 1;
     }
-    now
+    Ok(now)
 }
 
 // Tells of a last line that does not end in a newline.
-fn last_line(buffer: &[u8], held: Held) {
+fn last_line(rt: &impl Print, buffer: &[u8], held: Held) -> io::Result<()> {
     if held.bytes > 0 {
-        end_line(buffer, held);
+        end_line(rt, buffer, held)?;
     }
+    Ok(())
 }
 
 // Tells of each line of a file, of which a chunk is read at a time. So many chunks no file has.
-fn read_chunks(fd: i32, chunk: &mut [u8], buffer: &mut [u8]) {
+fn read_chunks<R: Read>(
+    rt: &impl Print,
+    file: &mut R,
+    chunk: &mut [u8],
+    buffer: &mut [u8],
+) -> io::Result<()> {
     let mut held = Held { bytes: 0, line: 1 };
-    let mut chunks: usize = 0;
-    while chunks < 999999999999 {
-        let n = io::read_full(fd, chunk);
-        held = take_chunk(chunk, n, buffer, held);
-        if n < chunk.len() {
-            last_line(buffer, held);
-            return;
+    for _ in 0..u64::MAX {
+        let n = file.read(chunk)?;
+        if n == 0 {
+            return last_line(rt, buffer, held);
         }
-        chunks += 1;
+        held = take_chunk(rt, chunk, n, buffer, held)?;
     }
+    Ok(())
 }
 
-pub(crate) fn all_lines(fd: i32) {
-    let mut chunk = io::large_buffer();
+pub(crate) fn all_lines<R: Read>(rt: &impl Print, file: &mut R) -> io::Result<()> {
+    let mut chunk = [0u8; 65536];
     let mut buffer = [0u8; ROOM];
-    read_chunks(fd, &mut chunk, &mut buffer);
+    read_chunks(rt, file, &mut chunk, &mut buffer)
 }

@@ -2,6 +2,7 @@
 use super::scan::less;
 use super::show::{all_rows, count, draw, mark, offset, past, refusal, words, write_front};
 use attr_list::Answer;
+use std::io;
 
 fn wide(place: u16) -> usize {
     place as usize
@@ -75,26 +76,32 @@ fn divide_by<'a, 'b>(
 }
 
 // Draws the division of a line of which so many tokens were consumed.
-fn division<'a>(entry: usize, kinds: &'a [u8], text: &'a [u8], pairs: &'a [u32], consumed: usize) {
+fn division<'a>(
+    rt: &impl Print,
+    entry: usize,
+    kinds: &'a [u8],
+    text: &'a [u8],
+    pairs: &'a [u32],
+    consumed: usize,
+) -> io::Result<()> {
     let mut marks = [32u8; 65536];
     let mut drawn = [32u8; 65536];
     let closing = offset(pairs, less(consumed, 1));
     divide_by(entry, kinds, pairs, closing, &mut marks);
     let columns = draw(text, &marks, closing, &mut drawn);
-    words(b"  ");
-    write_front(&drawn, columns);
-    words(b"\n");
+    words(rt, b"  ")?;
+    write_front(rt, &drawn, columns)?;
+    words(rt, b"\n")
 }
 
 // Says how many tokens were consumed.
-fn tell_consumed(tokens: usize) {
-    words(b"  ");
-    count(tokens);
+fn tell_consumed(rt: &impl Print, tokens: usize) -> io::Result<()> {
+    words(rt, b"  ")?;
+    count(rt, tokens)?;
     if tokens == 1 {
-        words(b" token consumed\n");
-        return;
+        return words(rt, b" token consumed\n");
     }
-    words(b" tokens consumed\n");
+    words(rt, b" tokens consumed\n")
 }
 
 // What one of the four readings answers.
@@ -115,19 +122,20 @@ fn answered<'a, 'b>(
 
 // Prints what the entry says of a line; `shown` is its text as it is printed.
 pub(crate) fn tell_list<'a>(
+    rt: &impl Print,
     entry: usize,
     kinds: &'a [u8],
     text: &'a [u8],
     pairs: &'a [u32],
     shown: &'a [u8],
-) {
+) -> io::Result<()> {
     let mut rows = [0u32; 20480];
     match answered(entry, kinds, text, pairs, &mut rows) {
-        Answer::Refused(n) => refusal(n),
+        Answer::Refused(n) => refusal(rt, n),
         Answer::Read { rows: n, consumed } => {
-            division(entry, kinds, text, pairs, consumed);
-            all_rows(kinds, shown, pairs, &rows, n);
-            tell_consumed(consumed);
+            division(rt, entry, kinds, text, pairs, consumed)?;
+            all_rows(rt, kinds, shown, pairs, &rows, n)?;
+            tell_consumed(rt, consumed)
         }
     }
 }

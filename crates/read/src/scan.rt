@@ -1,6 +1,8 @@
 // Bytes and words of a text. A place past the end reads as 0, so no caller owes a bound.
 ghost use Rattle.std.specs.Prelude.{◌≤◌, length};
 
+use std::io;
+
 // The byte at a place, 0 past the end.
 pub(crate) fn byte(text: &[u8], at: usize) -> u8 {
     if at < text.len() {
@@ -155,30 +157,30 @@ pub(crate) fn word_number<'a>(table: &'a [u8], text: &'a [u8], from: usize, to: 
 }
 
 // Writes a part of a text, cut to the text.
-pub(crate) fn write_part(text: &[u8], from: usize, to: usize) {
+pub(crate) fn write_part(rt: &impl Print, text: &[u8], from: usize, to: usize) -> io::Result<()> {
     if to > text.len() {
-        return;
+        return Ok(());
     }
     if from > to {
-        return;
+        return Ok(());
     }
-    io::write_all(1, &text[from..to]);
+    rt.write_all(&text[from..to])
 }
 
 // Writes word `n` of a table, words ended by a semicolon, counted from 0; nothing past the last.
-pub(crate) fn write_word(table: &[u8], n: usize) {
+pub(crate) fn write_word(rt: &impl Print, table: &[u8], n: usize) -> io::Result<()> {
     let mut at: usize = 0;
     let mut number: usize = 0;
     while at < table.len() {
         let end = find(table, at, table.len(), b';');
         if number == n {
-            write_part(table, at, end);
-            return;
+            return write_part(rt, table, at, end);
         }
         if end < at {
-            return;
+            return Ok(());
         }
         at = end + 1;
         number = up(number, 99);
     }
+    Ok(())
 }

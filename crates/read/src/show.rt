@@ -1,12 +1,13 @@
 // What is printed of a line: its text, its division, its rows.
 use super::scan::{byte, less, number, onward, put, up, write_part, write_word};
+use std::io;
 
-pub(crate) fn words(text: &[u8]) {
-    io::write_all(1, text);
+pub(crate) fn words(rt: &impl Print, text: &[u8]) -> io::Result<()> {
+    rt.write_all(text)
 }
 
-pub(crate) fn count(n: usize) {
-    io::print_decimal(1, n as u64);
+pub(crate) fn count(rt: &impl Print, n: usize) -> io::Result<()> {
+    rt.print(n as u64)
 }
 
 // A byte as it is printed: a control byte is a question mark.
@@ -30,22 +31,23 @@ pub(crate) fn soften(text: &[u8], shown: &mut [u8]) {
 }
 
 // Writes the first so many bytes of a text.
-pub(crate) fn write_front(text: &[u8], n: usize) {
-    write_part(text, 0, n);
+pub(crate) fn write_front(rt: &impl Print, text: &[u8], n: usize) -> io::Result<()> {
+    write_part(rt, text, 0, n)
 }
 
-fn soft_byte(b: u8) {
+fn soft_byte(rt: &impl Print, b: u8) -> io::Result<()> {
     let one = [soft(b)];
-    io::write_all(1, &one);
+    rt.write_all(&one)
 }
 
 // Writes a part of a text with its control bytes as question marks.
-pub(crate) fn soft_part(text: &[u8], from: usize, to: usize) {
+pub(crate) fn soft_part(rt: &impl Print, text: &[u8], from: usize, to: usize) -> io::Result<()> {
     let mut i = from;
     while i < to {
-        soft_byte(byte(text, i));
+        soft_byte(rt, byte(text, i))?;
         i += 1;
     }
+    Ok(())
 }
 
 // Puts a mark at each byte from `from` up to `to`.
@@ -149,98 +151,126 @@ pub(crate) fn past(pairs: &[u32], place: usize) -> usize {
 }
 
 // Writes what a run says: its tokens' texts, AttrRef tokens skipped.
-pub(crate) fn run<'a>(kinds: &'a [u8], shown: &'a [u8], pairs: &'a [u32], place: usize, n: usize) {
-    words(b"`");
+pub(crate) fn run<'a>(
+    rt: &impl Print,
+    kinds: &'a [u8],
+    shown: &'a [u8],
+    pairs: &'a [u32],
+    place: usize,
+    n: usize,
+) -> io::Result<()> {
+    words(rt, b"`")?;
     let mut i: usize = 0;
     while i < n {
         let at = onward(place, i, 4096);
         if byte(kinds, at) != token::kind::ATTR_REF {
-            write_part(shown, offset(pairs, at), past(pairs, at));
+            write_part(rt, shown, offset(pairs, at), past(pairs, at))?;
         }
         i += 1;
     }
-    words(b"`");
+    words(rt, b"`")
 }
 
 // Writes the words of a diagnostic.
-fn diagnostic(place: usize, n: usize) {
-    words(b"diagnostic ");
-    count(n);
-    words(b", ");
+fn diagnostic(rt: &impl Print, place: usize, n: usize) -> io::Result<()> {
+    words(rt, b"diagnostic ")?;
+    count(rt, n)?;
+    words(rt, b", ")?;
     write_word(
+        rt,
         b";Invalid id attribute;Invalid attr list;Invalid empty id attribute;More than one id attribute;",
         n,
-    );
-    words(b", at token ");
-    count(place);
+    )?;
+    words(rt, b", at token ")?;
+    count(rt, place)
 }
 
 // Writes a row of a named attribute.
-fn named<'a>(kinds: &'a [u8], shown: &'a [u8], pairs: &'a [u32], rows: &'a [u32], at: usize) {
+fn named<'a>(
+    rt: &impl Print,
+    kinds: &'a [u8],
+    shown: &'a [u8],
+    pairs: &'a [u32],
+    rows: &'a [u32],
+    at: usize,
+) -> io::Result<()> {
     run(
+        rt,
         kinds,
         shown,
         pairs,
         number(rows, onward(at, 1, 20485)),
         number(rows, onward(at, 2, 20485)),
-    );
-    words(b" = ");
+    )?;
+    words(rt, b" = ")?;
     run(
+        rt,
         kinds,
         shown,
         pairs,
         number(rows, onward(at, 3, 20485)),
         number(rows, onward(at, 4, 20485)),
-    );
+    )
 }
 
 // Writes the row that starts at number `at` of the rows, on a line of its own.
-fn one_row<'a>(kinds: &'a [u8], shown: &'a [u8], pairs: &'a [u32], rows: &'a [u32], at: usize) {
+fn one_row<'a>(
+    rt: &impl Print,
+    kinds: &'a [u8],
+    shown: &'a [u8],
+    pairs: &'a [u32],
+    rows: &'a [u32],
+    at: usize,
+) -> io::Result<()> {
     let tag = number(rows, at);
     let place = number(rows, onward(at, 1, 20485));
     let n = number(rows, onward(at, 2, 20485));
-    words(b"  ");
+    words(rt, b"  ")?;
     write_word(
+        rt,
         b";positional, empty;positional ;named ;id ;role ;option ;;named, read under none, ;",
         tag,
-    );
+    )?;
     if tag == 7 {
-        diagnostic(place, n);
+        diagnostic(rt, place, n)?;
     } else if tag == 3 {
-        named(kinds, shown, pairs, rows, at);
+        named(rt, kinds, shown, pairs, rows, at)?;
     } else if tag == 8 {
-        named(kinds, shown, pairs, rows, at);
+        named(rt, kinds, shown, pairs, rows, at)?;
     } else if tag > 1 {
-        run(kinds, shown, pairs, place, n);
+        run(rt, kinds, shown, pairs, place, n)?;
     }
-    words(b"\n");
+    words(rt, b"\n")
 }
 
 // Writes the first so many rows.
 pub(crate) fn all_rows<'a>(
+    rt: &impl Print,
     kinds: &'a [u8],
     shown: &'a [u8],
     pairs: &'a [u32],
     rows: &'a [u32],
     n: usize,
-) {
+) -> io::Result<()> {
     let mut i: usize = 0;
     let mut at: usize = 0;
     while i < n {
-        one_row(kinds, shown, pairs, rows, at);
+        one_row(rt, kinds, shown, pairs, rows, at)?;
         at = onward(at, 5, 20480);
         i += 1;
     }
+    Ok(())
 }
 
 // Writes a refusal: its number and its meaning.
-pub(crate) fn refusal(n: usize) {
-    words(b"  refused, ");
-    count(n);
-    words(b": ");
+pub(crate) fn refusal(rt: &impl Print, n: usize) -> io::Result<()> {
+    words(rt, b"  refused, ")?;
+    count(rt, n)?;
+    words(rt, b": ")?;
     write_word(
+        rt,
         b";no tokens;over 4,096 tokens;the text is over 65,535 bytes;not two numbers for each kind;some kind is over 50;a token starts before the previous ends, or ends past the text;the row buffer is too short;no closing bracket;",
         n,
-    );
-    words(b"\n");
+    )?;
+    words(rt, b"\n")
 }

@@ -10,30 +10,31 @@ mod sets;
 use input::{bytes, number, numbers};
 use lists::replay_list;
 use sets::replay_set;
+use std::io::{self, Read};
 
-fn write_number(n: usize) {
-    io::print_decimal(1, n as u64);
+fn write_number(rt: &impl Print, n: usize) -> io::Result<()> {
+    rt.print(n as u64)
 }
 
-fn end_line() {
-    io::write_all(1, b"\n");
+fn end_line(rt: &impl Print) -> io::Result<()> {
+    rt.write_all(b"\n")
 }
 
-fn write_two(a: usize, b: usize) {
-    write_number(a);
-    io::write_all(1, b" ");
-    write_number(b);
-    end_line();
+fn write_two(rt: &impl Print, a: usize, b: usize) -> io::Result<()> {
+    write_number(rt, a)?;
+    rt.write_all(b" ")?;
+    write_number(rt, b)?;
+    end_line(rt)
 }
 
-fn write_block_line(answer: attr_list::BlockLine) {
+fn write_block_line(rt: &impl Print, answer: attr_list::BlockLine) -> io::Result<()> {
     match answer {
-        attr_list::BlockLine::Refused(refused) => write_two(refused, 0),
+        attr_list::BlockLine::Refused(refused) => write_two(rt, refused, 0),
         attr_list::BlockLine::Is(yes) => {
             if yes {
-                write_two(0, 1)
+                write_two(rt, 0, 1)
             } else {
-                write_two(0, 0)
+                write_two(rt, 0, 0)
             }
         }
     }
@@ -41,6 +42,7 @@ fn write_block_line(answer: attr_list::BlockLine) {
 
 // Calls what `entry` names on the first so many elements of each array.
 fn call<'a>(
+    rt: &impl Print,
     entry: u64,
     kinds: &'a [u8],
     k: usize,
@@ -48,57 +50,62 @@ fn call<'a>(
     t: usize,
     pairs: &'a [u32],
     p: usize,
-) {
+) -> io::Result<()> {
     if k > kinds.len() {
-        return;
+        return Ok(());
     }
     if t > text.len() {
-        return;
+        return Ok(());
     }
     if p > pairs.len() {
-        return;
+        return Ok(());
     }
     if entry == 5 {
-        write_block_line(attr_list::is_block_attr_list(&kinds[..k], &text[..t], &pairs[..p]));
+        write_block_line(
+            rt,
+            attr_list::is_block_attr_list(&kinds[..k], &text[..t], &pairs[..p]),
+        )?;
     }
+    Ok(())
 }
 
 // A recorded call that takes a line: its kinds, its pairs and its text. Answers where the next call starts.
-fn replay_line(recorded: &[u8], entry: u64, start: usize) -> usize {
+fn replay_line(rt: &impl Print, recorded: &[u8], entry: u64, start: usize) -> io::Result<usize> {
     let mut kinds = [10u8; 4100];
     let mut pairs = [0u32; 8200];
     let mut text = [97u8; 65540];
     let k = bytes(recorded, start, &mut kinds);
     let p = numbers(recorded, k.next, &mut pairs);
     let t = bytes(recorded, p.next, &mut text);
-    call(entry, &kinds, k.count, &text, t.count, &pairs, p.count);
-    t.next
+    call(rt, entry, &kinds, k.count, &text, t.count, &pairs, p.count)?;
+    Ok(t.next)
 }
 
-fn replay_call(recorded: &[u8], entry: u64, start: usize) -> usize {
+fn replay_call(rt: &impl Print, recorded: &[u8], entry: u64, start: usize) -> io::Result<usize> {
     if entry < 5 {
-        return replay_list(recorded, entry, start);
+        return replay_list(rt, recorded, entry, start);
     }
     if entry < 6 {
-        return replay_line(recorded, entry, start);
+        return replay_line(rt, recorded, entry, start);
     }
-    replay_set(recorded, entry, start)
+    replay_set(rt, recorded, entry, start)
 }
 
-fn replay(recorded: &[u8]) {
+fn replay(rt: &impl Print, recorded: &[u8]) -> io::Result<()> {
     let mut at: usize = 0;
     while at < recorded.len() {
         let entry = number(recorded, at);
-        let next = replay_call(recorded, entry.value, entry.next);
+        let next = replay_call(rt, recorded, entry.value, entry.next)?;
         if next <= at {
-            return;
+            return Ok(());
         }
         at = next;
     }
+    Ok(())
 }
 
-fn main() {
-    let mut recorded = [0u8; 400000];
-    let n = io::read_full(0, &mut recorded);
-    replay(&recorded[..n]);
+fn main(rt: HostRuntime) -> io::Result<()> {
+    let mut recorded = Vec::new(rt.alloc());
+    rt.reader().take(400000).read_to_end(&mut recorded)?;
+    replay(&rt, recorded.as_slice())
 }

@@ -1,5 +1,5 @@
 //! Where libtelfjost.a is: the folder that TELFJOST_LIB_DIR names, else ../target/staticlib,
-//! where `rt staticlib telfjost` puts it.
+//! where `tools/library` puts it.
 
 use std::path::Path;
 use std::{env, process};
@@ -13,7 +13,7 @@ fn main() {
     println!("cargo:rerun-if-changed={}", library.display());
     if !library.is_file() {
         eprintln!(
-            "no {}: run `rt staticlib telfjost`, or name its folder by TELFJOST_LIB_DIR",
+            "no {}: run `tools/library`, or name its folder by TELFJOST_LIB_DIR",
             library.display()
         );
         process::exit(1);

@@ -1,7 +1,7 @@
 /*
  * Telfjost: a proved reader of AsciiDoc attribute lines. docs/RULES.md tells the rules of reading.
  *
- * Link with target/staticlib/libtelfjost.a (`rt staticlib telfjost`), x86-64 Linux:
+ * Link with target/staticlib/libtelfjost.a (`tools/library`), x86-64 Linux:
  *     cc -I include program.c target/staticlib/libtelfjost.a
  *
  * Every function returns on every input, allocates nothing, keeps no state between calls and

@@ -31,7 +31,7 @@
 //! ```
 //!
 //! Linking: `build.rs` looks for the library in the folder that `TELFJOST_LIB_DIR` names, else
-//! in `../target/staticlib`, where `rt staticlib telfjost` puts it.
+//! in `../target/staticlib`, where `tools/library` puts it.
 #![deny(unsafe_code, missing_docs)]
 
 mod kind;

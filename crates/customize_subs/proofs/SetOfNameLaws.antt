@@ -1,5 +1,5 @@
 -- A name that is inserted into the empty set.
-use Rattle.std.specs.Prelude.{ℕ, zero, suc, ◌<◌, ◌/◌, ◌%◌, Bool, true, false, List, [], ◌∷◌, ◌≡◌, refl, eqb, length, get_or}
+use Rattle.std.specs.Prelude.{ℕ, zero, suc, ◌<◌, Bool, true, false, List, ◌≡◌, refl, eqb, get_or}
 use Rattle.std.proofs.Math.Nat.{zero-div}
 use Rattle.std.proofs.Common.{arith, sym, ap, ◌∙◌, ext_get_or, eqb-true}
 use Rattle.std.proofs.lemmas.Bool.{false≢true, eqb-false}
@@ -9,7 +9,7 @@ use Rattle.substitutions.specs.declared.Mode.TheVariants.{Port, Sheet}
 use Rattle.substitutions.specs.Kinds.{flag_of, flagged}
 use Rattle.substitutions.specs.Held.{held}
 use Rattle.substitutions.specs.Moves.{set, empty_set, filled, insert_of}
-use Rattle.substitutions.specs.HeldPlaces.{HeldSet, place}
+use Rattle.substitutions.specs.HeldPlaces.{place}
 use Rattle.substitutions.proofs.HeldPlacesLaws.{held-read}
 use Rattle.subs_names.specs.declared.StepOrGroup.{StepOrGroup}
 use Rattle.subs_names.specs.declared.StepOrGroup.TheVariants.{None, Normal, Verbatim, SpecialChars, Callouts, Quotes, Attributes, Replacements, Macros, PostReplacements}

@@ -9,7 +9,7 @@ pub returns-then-flags-ge128 : goal.returns-then-flags-ge128
 returns-then-flags-ge128 c = left-big c.args.set (omega arith)
 
 pub returns-then-is_normal : goal.returns-then-is_normal
-returns-then-is_normal c = normal-left c.args.set (search rules) c.if-flags-eq63.true (sym c.is_normal.ensures ∙ c.if-is_normal.true)
+returns-then-is_normal c = normal-left c.args.set (search rules) (omega arith) (sym c.is_normal.ensures ∙ c.if-is_normal.true)
 
 pub returns : goal.returns
 returns c = c.take_flags.ensures ∙ left-small c.args.set (omega arith)

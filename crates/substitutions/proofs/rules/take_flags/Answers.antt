@@ -44,16 +44,9 @@ overflow_sub-f c =
 pub loop-i-preserved : goal.loop-i-preserved
 loop-i-preserved c =
     let l = c.loop-i in
-    let a = c.args in (
-      l.invariant.0,
-      (
-        omega arith,
-        (
-          omega arith,
-          rw c.flag_of-f.ensures.value (sym (left-next a.places l.i (omega arith) l.f c.if-p-eq0.false (omega arith) (sym c.is_flagged.ensures ∙ c.if-not-is_flagged.false)) ∙ l.invariant.1.1.1),
-        ),
-      ),
-    )
+    let a = c.args in
+    let e = left-next a.places l.i (omega arith) l.f c.if-p-eq0.false (omega arith) (sym c.is_flagged.ensures ∙ c.if-not-is_flagged.false) in
+    (l.invariant.0, (omega arith, (omega arith, cc (e, l.invariant.1.1.1))))
 
 pub returns : goal.returns
 returns c =

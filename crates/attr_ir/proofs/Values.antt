@@ -11,7 +11,7 @@ use Rattle.token.specs.Kind.{whitespace}
 use Rattle.token.specs.Line.{Line, Token, line_of, token_at}
 use Rattle.runs.specs.Run.{kept, is_whitespace, is_equals, without, unquote, run_of, in_run}
 use Rattle.runs.specs.Names.{bytes, same_bytes}
-use Rattle.runs.specs.Places.{FoundIn, all, StartsAt, Part, PartMut, FoundAt}
+use Rattle.runs.specs.Places.{FoundIn, all, StartsAt, Part, FoundAt}
 use Rattle.runs.proofs.KeptLaws.{is-kind, not-kind, kept-none, kept-first}
 use Rattle.attr_ir.specs.declared.Name.{Name}
 use Rattle.attr_ir.specs.declared.Name.TheVariants.{Options, Role, Id, Plain, Other}
@@ -89,7 +89,7 @@ less-first l from to m after w high more none = go (dec_lt m to)
         ap less_first (kept-none l m to (omega arith)) ∙ sym (kept-none l after to (omega arith))
 
 module _ (kinds text pairs : List ℕ) (from to m after : ℕ) (w : FoundAt is_equals kinds from to m) (more : m < to → after ≡ m + 1) (none : to ≤ m → after ≡ to) (past : m ≤ after)
-    (v : Run) (vr : (text pairs : List ℕ) → v ≡ run_of (value (kept (line_of kinds text pairs) after to))) (vp : PartMut value kinds after to v)
+    (v : Run) (vr : (text pairs : List ℕ) → v ≡ run_of (value (kept (line_of kinds text pairs) after to))) (vp : Part value kinds after to v)
     (asked : Name) (an : asked ≡ name_of (bytes (without is_whitespace (kept (line_of kinds text pairs) from m)))) where
   abbrev Answered : AttrIr → Type 0
   Answered r = IrOf key_value_ir (line_of kinds text pairs) from to r

@@ -1,5 +1,5 @@
 -- Laws of rows in a lent buffer.
-use Rattle.std.specs.Prelude.{ℕ, suc, ◌+◌, ◌*◌, ◌-◌, ◌≡◌, refl, List, [], ◌∷◌, ◌++◌, length, set}
+use Rattle.std.specs.Prelude.{ℕ, suc, ◌+◌, ◌*◌, ◌≡◌, refl, List, [], ◌∷◌, ◌++◌, length, set}
 use native.Mathlib.Omega.{arith}
 use Rattle.std.proofs.Common.{suc-add, add-suc, add-zero, sym, ap, ◌∙◌, append_assoc, length-append}
 use Rattle.std.proofs.lemmas.List.Edits.{sets}

@@ -1,5 +1,5 @@
 -- `has_room` compares with a division: n / 5 is at least t exactly where n is at least 5 × t. Assumes nothing.
-use Prim.Native.Nat.{◌*◌, ◌-◌, ◌/◌}
+use Prim.Native.Nat.{◌*◌, ◌/◌}
 use native.Mathlib.Omega.{arith}
 use lib.Dec.{leb}
 use borrow.Author.Tests.{le-leb, leb-true}

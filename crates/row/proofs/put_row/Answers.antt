@@ -1,5 +1,4 @@
 -- `put_row` sets five numbers one after the other, and they are the row's; each place is below the length, and each number fits. Assumes nothing.
-use Prim.Native.Nat.{◌-◌}
 use native.Mathlib.Omega.{arith}
 use lib.ListN.{length-set}
 use Rattle.row.proofs.Places.{plus-1, plus-2, plus-3, plus-4}

@@ -5,4 +5,4 @@ use Rattle.substitutions.specs.Kinds.{flagged}
 use Rattle.substitutions.proofs.contains.Goals as goal
 
 pub returns : goal.returns
-returns c = c.is_flagged.ensures ∙ ap (λ (k : ℕ). flagged k c.args.set.flags) c.number.ensures.0
+returns c = c.is_flagged.ensures ∙ ap (λ (k : ℕ). flagged k c.args.set.flags) c.number.ensures.value

@@ -1,7 +1,5 @@
 -- `insert_in` refuses with the set given or gives what insert gives. Assumes nothing.
-use Prim.Native.Nat.{◌-◌}
 use mathlib.Core.Path.{sym, ◌∙◌}
-use lib.ListN.{set}
 use Rattle.substitutions.specs.Kinds.{number_of}
 use Rattle.substitutions.specs.Moves.{room, insert_of, refusal_of, insert_answer}
 use Rattle.substitutions.proofs.AnswersLaws.{refused, moved_to}

@@ -1,8 +1,6 @@
 -- `is_held` decides `held`, since a set is held where at most one flag is left over. Assumes nothing.
 use borrow.Author.Rules.{rules}
-use Prim.Native.Nat.{◌-◌}
 use mathlib.Core.Path.{sym, ap, ◌∙◌}
-use lib.ListN.{set}
 use Rattle.substitutions.specs.Loops.{few}
 use Rattle.substitutions.proofs.HeldLaws.{held-is}
 use Rattle.substitutions.proofs.is_held.Goals as goal

@@ -1,9 +1,8 @@
 -- `is_sound` decides `sound`, since a set is sound where no flag is left over. Assumes nothing.
 use borrow.Author.Rules.{rules}
-use Prim.Native.Nat.{ℕ, ◌-◌}
+use Prim.Native.Nat.{ℕ}
 use mathlib.Core.Path.{sym, ap, ◌∙◌}
 use lib.Dec.{eqb}
-use lib.ListN.{set}
 use Rattle.substitutions.proofs.HeldLaws.{sound-is}
 use Rattle.substitutions.proofs.is_sound.Goals as goal
 

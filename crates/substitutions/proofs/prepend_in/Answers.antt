@@ -1,7 +1,5 @@
 -- `prepend_in` refuses with the set given or gives what prepend gives. Assumes nothing.
-use Prim.Native.Nat.{◌-◌}
 use mathlib.Core.Path.{sym, ◌∙◌}
-use lib.ListN.{set}
 use Rattle.substitutions.specs.Kinds.{number_of}
 use Rattle.substitutions.specs.Moves.{prepend_of, refusal_of, prepend_answer}
 use Rattle.substitutions.proofs.AnswersLaws.{refused, moved_to}

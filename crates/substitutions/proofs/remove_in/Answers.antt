@@ -1,7 +1,5 @@
 -- `remove_in` refuses with the set given or gives what remove gives. Assumes nothing.
-use Prim.Native.Nat.{◌-◌}
 use mathlib.Core.Path.{sym, ◌∙◌}
-use lib.ListN.{set}
 use Rattle.substitutions.specs.Kinds.{number_of}
 use Rattle.substitutions.specs.Moves.{remove_of, refusal_of, remove_answer}
 use Rattle.substitutions.proofs.AnswersLaws.{refused, moved_to}

@@ -1,9 +1,7 @@
 -- `unclaimed_flags` gives the flags without a place: by bit 7, none for the normal set, else by the walk over the places. Assumes nothing.
 use borrow.Author.Rules.{rules}
-use Prim.Native.Nat.{◌-◌}
 use native.Mathlib.Omega.{arith}
 use mathlib.Core.Path.{sym, ◌∙◌}
-use lib.ListN.{set}
 use Rattle.substitutions.proofs.AnswersLaws.{left-big, left-small, normal-left}
 use Rattle.substitutions.proofs.unclaimed_flags.Goals as goal
 

@@ -16,5 +16,8 @@ shifted (suc (suc (suc (suc (suc (suc zero)))))) low high = (refl, omega arith, 
 shifted (suc (suc (suc (suc (suc (suc (suc zero))))))) low high = (refl, omega arith, omega arith)
 shifted (suc (suc (suc (suc (suc (suc (suc (suc k)))))))) low high = absurd (omega arith)
 
-pub returns : goal.returns
-returns c = let w = shifted c.args.k c.requires.0 c.requires.1 in (w.0, (w.1, w.2))
+pub returns-clause-value : goal.returns-clause-value
+returns-clause-value c = (shifted c.args.k c.requires.0 c.requires.1).0
+
+pub returns-clause-within : goal.returns-clause-within
+returns-clause-within c = let w = shifted c.args.k c.requires.0 c.requires.1 in (w.1, w.2)

@@ -1,11 +1,9 @@
 -- `close` closes the gap at a place. The loop's invariant: closing the gap where the loop stands gives the same as at the start. Assumes nothing.
 use borrow.Author.Rules.{rules}
-use Prim.Native.Nat.{◌-◌}
 use native.Mathlib.Omega.{arith}
 use mathlib.Core.Path.{refl, ◌∙◌}
-use lib.ListN.{length, length-set}
+use lib.ListN.{length-set}
 use Rattle.substitutions.proofs.PlacesLaws.{closed-next, closed-last}
-use Rattle.substitutions.specs.Loops.{closed}
 use Rattle.substitutions.proofs.places.close.Goals as goal
 
 pub loop-i-init : goal.loop-i-init

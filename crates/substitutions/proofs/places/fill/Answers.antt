@@ -1,10 +1,8 @@
 -- `fill` puts k into the first empty place among the first n. The loop's invariant: what is passed is kept, and the rest is
 -- still to be filled. Assumes nothing.
 use borrow.Author.Rules.{rules}
-use Prim.Native.Nat.{◌-◌}
 use native.Mathlib.Omega.{arith}
 use mathlib.Core.Path.{sym, ◌∙◌}
-use Rattle.substitutions.specs.Moves.{filled}
 use Rattle.substitutions.proofs.PlacesLaws.{filled-start, filled-here, filled_next, filled-done}
 use Rattle.substitutions.proofs.places.fill.Goals as goal
 

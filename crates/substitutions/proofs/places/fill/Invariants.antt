@@ -1,6 +1,6 @@
 -- `fill` puts k into the first empty place among the first n. The loop's invariant: what is passed is kept, and the rest is
 -- still to be filled. Assumes nothing.
-use Prim.Native.Nat.{◌+◌, ◌-◌, ◌≤◌}
+use Prim.Native.Nat.{◌-◌, ◌≤◌}
 use mathlib.Core.Path.{◌≡◌}
 use mathlib.Core.List.{◌++◌}
 use lib.ListN.{length, take, drop}

@@ -1,13 +1,11 @@
 -- `lead` puts a kind first. The loop's invariant: what is passed has moved by one place, and the rest is pushed by what is
 -- carried. Assumes nothing.
 use borrow.Author.Rules.{rules}
-use Prim.Native.Nat.{◌-◌}
 use native.Mathlib.Omega.{arith}
 use mathlib.Core.Path.{sym, ◌∙◌}
-use lib.ListN.{length, length-set}
+use lib.ListN.{length-set}
 use Rattle.substitutions.specs.Moves.{led}
 use Rattle.substitutions.proofs.PlacesLaws.{pushed-is, pushed-here, pushed-next, pushed-done}
-use Rattle.substitutions.specs.Loops.{pushed}
 use Rattle.substitutions.proofs.places.lead.Goals as goal
 
 pub loop-i-init : goal.loop-i-init

@@ -1,6 +1,6 @@
 -- `lead` puts a kind first. The loop's invariant: what is passed has moved by one place, and the rest is pushed by what is
 -- carried. Assumes nothing.
-use Prim.Native.Nat.{◌+◌, ◌-◌, ◌≤◌}
+use Prim.Native.Nat.{◌-◌, ◌≤◌}
 use mathlib.Core.Path.{◌≡◌}
 use mathlib.Core.List.{◌++◌}
 use lib.ListN.{length, take, drop}

@@ -1,9 +1,7 @@
 -- `take_out` takes a kind out. The loop's invariant: what is passed does not hold the kind, and the rest is still to be searched. Assumes nothing.
 use borrow.Author.Rules.{rules}
-use Prim.Native.Nat.{◌-◌}
 use native.Mathlib.Omega.{arith}
 use mathlib.Core.Path.{refl, sym, ◌∙◌}
-use Rattle.substitutions.specs.Moves.{without}
 use Rattle.substitutions.proofs.PlacesLaws.{without-here, without-next, without-done}
 use Rattle.substitutions.proofs.places.take_out.Goals as goal
 
@@ -14,16 +12,16 @@ pub returns-then-places-i : goal.returns-then-places-i
 returns-then-places-i c =
     let l = c.loop-i in
     let a = c.args in
-    c.close.ensures ∙ sym (without-here a.t1 l.i a.k 0 (omega arith) c.if-places-i.true) ∙ l.invariant.1.1
+    c.close.ensures ∙ sym (without-here a.places l.i a.k 0 (omega arith) c.if-places-i.true) ∙ l.invariant.1.1
 
 pub loop-i-preserved : goal.loop-i-preserved
 loop-i-preserved c =
     let l = c.loop-i in
     let a = c.args in
-    (l.invariant.0, (omega arith, sym (without-next a.t1 l.i a.k 0 (omega arith) c.if-places-i.false) ∙ l.invariant.1.1))
+    (l.invariant.0, (omega arith, sym (without-next a.places l.i a.k 0 (omega arith) c.if-places-i.false) ∙ l.invariant.1.1))
 
 pub returns : goal.returns
 returns c =
     let l = c.loop-i in
     let a = c.args in
-    sym (without-done a.t1 l.i a.k (omega arith)) ∙ l.invariant.1.1
+    sym (without-done a.places l.i a.k (omega arith)) ∙ l.invariant.1.1

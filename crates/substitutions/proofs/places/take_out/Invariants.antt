@@ -1,5 +1,5 @@
 -- `take_out` takes a kind out. The loop's invariant: what is passed does not hold the kind, and the rest is still to be searched. Assumes nothing.
-use Prim.Native.Nat.{◌+◌, ◌-◌, ◌≤◌}
+use Prim.Native.Nat.{◌-◌, ◌≤◌}
 use mathlib.Core.Path.{◌≡◌}
 use mathlib.Core.List.{◌++◌}
 use lib.ListN.{length, take, drop}

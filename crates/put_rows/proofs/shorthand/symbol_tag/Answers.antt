@@ -1,0 +1,14 @@
+-- `symbol_tag` gives the tag of a symbol's row, one way through the match for each. Assumes nothing.
+use Prim.Native.Nat.{◌-◌}
+use mathlib.Core.Path.{sym}
+use borrow.Author.Tests.{ne_eqb}
+use Rattle.put_rows.proofs.shorthand.symbol_tag.Goals as goal
+
+pub returns-in-27 : goal.returns-in-27
+returns-in-27 c = sym (rw c.in-27.is)
+
+pub returns-in-36 : goal.returns-in-36
+returns-in-36 c = sym (rw c.in-36.is)
+
+pub returns-in_default : goal.returns-in_default
+returns-in_default c = sym (rw (ne_eqb _ 27 c.in_default.in_default-own.rest.0.1, ne_eqb _ 36 c.in_default.in_default-own.rest.1))

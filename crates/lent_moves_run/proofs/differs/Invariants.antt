@@ -1,0 +1,10 @@
+-- `differs` is safe and ends: the measure is the places left.
+-- Assumes nothing.
+use Rattle.std.proofs.Common.{◌-◌, ◌≤◌}
+use Rattle.lent_moves_run.proofs.differs.Given as goal
+
+abbrev pub invariant-loop-i : goal.invariant-loop-i
+invariant-loop-i l = l.i ≤ 7
+
+abbrev pub decreases-loop-i : goal.decreases-loop-i
+decreases-loop-i l = 7 - l.i

@@ -1,14 +1,14 @@
 -- Quotes round a run.
 use Prim.Native.Nat.{ℕ, ◌+◌, ◌-◌, ◌≤◌, ◌<◌}
 use native.Mathlib.Omega.{arith}
-use mathlib.Core.Bool.{Bool, true, false, not, ◌||◌}
+use mathlib.Core.Bool.{Bool, true, false, ◌||◌}
 use mathlib.Core.Path.{◌≡◌, refl, sym, ap, ◌∙◌}
 use mathlib.Core.List.{List, []}
 use lib.Dec.{eqb}
 use lib.ListN.{get_or}
 use Rattle.token.specs.declared.Run.{Run}
 use Rattle.token.specs.Kind.{double_quote, single_quote}
-use Rattle.token.specs.Line.{Line, line_of, run}
+use Rattle.token.specs.Line.{Line, line_of}
 use Rattle.runs.specs.Run.{kept, quoted, unquote, run_of, in_run}
 use Rattle.runs.specs.Places.{Ends, all, Part}
 use Rattle.runs.proofs.KeptLaws.{kind-is, is-kind, not-kind, quoted-long, quoted-short, quoted-room, unquote-ends, unquote-plain}

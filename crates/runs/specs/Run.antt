@@ -1,5 +1,5 @@
 -- Kept tokens and runs (document 01, "Tokens and runs").
-use Rattle.std.specs.Prelude.{ℕ, suc, ◌+◌, ◌-◌, Bool, false, cond, not, ◌&&◌, ◌||◌, List, [], ◌∷◌, eqb, ltb, length}
+use Rattle.std.specs.Prelude.{ℕ, suc, ◌+◌, ◌-◌, Bool, false, cond, ◌&&◌, ◌||◌, List, [], ◌∷◌, eqb, ltb, length}
 use Rattle.token.specs.declared.Run.{Run}
 use Rattle.token.specs.Kind.{attr_ref, comma, double_quote, dots, equal_signs, hash, percent, single_quote, whitespace}
 use Rattle.token.specs.Line.{Line, Token, tokens, run, empty_run}

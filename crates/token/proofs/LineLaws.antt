@@ -1,9 +1,9 @@
 -- Laws of the checks: what is known of a line that is not refused.
-use Rattle.std.specs.Prelude.{ℕ, zero, suc, ◌+◌, ◌-◌, ◌*◌, ◌≤◌, ◌<◌, Bool, true, false, not, ◌&&◌, ◌||◌, ◌≡◌, refl, List, [], ◌∷◌, eqb, ltb, length, get_or}
-use Rattle.std.proofs.Common.{arith, sym, subst, ne_eqb, eqb-true, le-ltb, ltb-true, ltb-false}
+use Rattle.std.specs.Prelude.{ℕ, zero, suc, ◌+◌, ◌*◌, ◌≤◌, ◌<◌, Bool, true, false, not, ◌||◌, ◌≡◌, refl, List, [], ◌∷◌, eqb, ltb, length, get_or}
+use Rattle.std.proofs.Common.{arith, subst, eqb-true, le-ltb, ltb-true, ltb-false}
 use Rattle.std.proofs.lemmas.Bool.{not-false, eqb-false}
 use Rattle.refusals.specs.Refusals.{no_tokens, too_many_tokens, text_too_long, pairs_not_two, kind_too_large, pairs_not_in_order}
-use Rattle.token.specs.Kind.{largest, close_bracket, open_bracket}
+use Rattle.token.specs.Kind.{largest}
 use Rattle.token.specs.Line.{line_of, most_tokens, most_bytes, some_over, misplaced, Over, Placed, check, refusal}
 use Rattle.token.specs.Lent.{Lent}
 

@@ -1,5 +1,4 @@
 -- `first_kept` is where `skip_attr_refs` stops. Assumes nothing.
-use Prim.Native.Nat.{◌-◌}
 use native.Mathlib.Omega.{arith}
 use Rattle.runs.proofs.Ranges.{first-starts}
 use Rattle.runs.proofs.first_kept.Goals as goal

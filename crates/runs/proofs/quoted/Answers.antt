@@ -1,5 +1,4 @@
 -- `quoted` asks of the run of the kept tokens, which has the same tokens. Assumes nothing.
-use Prim.Native.Nat.{◌-◌}
 use native.Mathlib.Omega.{arith}
 use mathlib.Core.Path.{ap, ◌∙◌}
 use Rattle.runs.specs.Run.{quoted}

@@ -1,5 +1,4 @@
 -- `quotes_round` looks at the first and the last token of a run, which are kept, and at how many there are. Assumes nothing.
-use Prim.Native.Nat.{◌-◌}
 use native.Mathlib.Omega.{arith}
 use Rattle.runs.proofs.Quotes.{quotes-short, quotes-double, quotes-single, quotes-other}
 use Rattle.runs.proofs.quotes_round.Goals as goal

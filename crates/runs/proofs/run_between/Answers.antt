@@ -1,5 +1,4 @@
 -- `run_between` is the definition: a run, or the empty one. Assumes nothing.
-use Prim.Native.Nat.{◌-◌}
 use borrow.Author.Tests.{lt-ltb, le-ltb}
 use Rattle.runs.proofs.run_between.Goals as goal
 

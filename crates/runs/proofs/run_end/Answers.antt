@@ -1,5 +1,4 @@
 -- `run_end` gives `to` where there is no place or the last one holds a kept token, and else what the reading of the run gives. Assumes nothing.
-use Prim.Native.Nat.{◌-◌}
 use native.Mathlib.Omega.{arith}
 use mathlib.Core.Path.{refl}
 use Rattle.runs.proofs.run_end.Goals as goal

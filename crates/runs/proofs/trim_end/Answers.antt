@@ -1,9 +1,7 @@
 -- `trim_end` steps back over AttrRef and Whitespace. The loop's invariant (`Right`): what stands before is, trimmed, what is left of the whole. Assumes nothing.
-use Prim.Native.Nat.{◌-◌}
 use native.Mathlib.Omega.{arith}
 use Rattle.runs.proofs.Ranges.{right-start, right-skip, right_end, right-space, right-word}
 use Rattle.runs.proofs.KeptLaws.{trim_end-none}
-use Rattle.runs.specs.Run.{trim_end}
 use Rattle.runs.proofs.trim_end.Goals as goal
 
 pub loop-i-init : goal.loop-i-init

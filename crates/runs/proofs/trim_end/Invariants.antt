@@ -1,5 +1,4 @@
 -- `trim_end` steps back over AttrRef and Whitespace. The loop's invariant (`Right`): what stands before is, trimmed, what is left of the whole. Assumes nothing.
-use Prim.Native.Nat.{◌-◌}
 use Rattle.runs.proofs.Ranges.{Right}
 use Rattle.runs.specs.Run.{trim_end}
 use Rattle.runs.proofs.trim_end.Given as goal

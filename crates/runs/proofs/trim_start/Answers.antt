@@ -1,9 +1,7 @@
 -- `trim_start` steps over AttrRef and Whitespace. The loop's invariant (`Left`): what is left from here is, trimmed, what is left of the whole. Assumes nothing.
-use Prim.Native.Nat.{◌-◌}
 use native.Mathlib.Omega.{arith}
 use Rattle.runs.proofs.Ranges.{left-start, left-skip, left_end, left-space, left_word}
 use Rattle.runs.proofs.KeptLaws.{trim_start-none}
-use Rattle.runs.specs.Run.{trim_start}
 use Rattle.runs.proofs.trim_start.Goals as goal
 
 pub loop-i-init : goal.loop-i-init

@@ -1,8 +1,6 @@
 -- `unquote` takes the run of the kept tokens, and without its two quotes the run of those between them. Assumes nothing.
-use Prim.Native.Nat.{◌-◌}
 use native.Mathlib.Omega.{arith}
 use mathlib.Core.Path.{sym, ◌∙◌}
-use borrow.Author.Tests.{not-false}
 use Rattle.runs.proofs.Quotes.{quotes-room, unquoted-part, unquoted-run, plain-part, plain-run}
 use Rattle.runs.proofs.unquote.Goals as goal
 
@@ -13,7 +11,7 @@ pub returns-then-not-quotes_round : goal.returns-then-not-quotes_round
 returns-then-not-quotes_round c =
     let run-of-call = c.run_of-r in
     let quotes-round-call = c.quotes_round in
-     record { run = plain-run _ _ _ _ run-of-call.ensures.part (λ text pairs. sym (quotes-round-call.ensures text pairs) ∙ c.if-not-quotes_round.true) run-of-call.ensures.run; part = plain-part _ _ _ _ run-of-call.ensures.part (λ text pairs. sym (quotes-round-call.ensures text pairs) ∙ c.if-not-quotes_round.true) }
+    record { run = plain-run _ _ _ _ run-of-call.ensures.part (λ text pairs. sym (quotes-round-call.ensures text pairs) ∙ c.if-not-quotes_round.true) run-of-call.ensures.run; part = plain-part _ _ _ _ run-of-call.ensures.part (λ text pairs. sym (quotes-round-call.ensures text pairs) ∙ c.if-not-quotes_round.true) }
 
 pub overflow_sub-p : goal.overflow_sub-p
 overflow_sub-p c = omega (arith, quotes-room _ _ _ _ c.run_of-r.ensures.part (λ text pairs. sym (c.quotes_round.ensures text pairs) ∙ c.if-not-quotes_round.false))
@@ -26,4 +24,4 @@ returns c =
     let run-of-call = c.run_of-r in
     let quotes-round-call = c.quotes_round in
     let if1 = c.if-not-quotes_round in
-     record { run = unquoted-run _ _ _ _ run-of-call.ensures.part (λ text pairs. sym (quotes-round-call.ensures text pairs) ∙ if1.false) _ c.run_of.ensures.run; part = unquoted-part _ _ _ _ run-of-call.ensures.part (λ text pairs. sym (quotes-round-call.ensures text pairs) ∙ if1.false) _ c.run_of.ensures.part }
+    record { run = unquoted-run _ _ _ _ run-of-call.ensures.part (λ text pairs. sym (quotes-round-call.ensures text pairs) ∙ if1.false) _ c.run_of.ensures.run; part = unquoted-part _ _ _ _ run-of-call.ensures.part (λ text pairs. sym (quotes-round-call.ensures text pairs) ∙ if1.false) _ c.run_of.ensures.part }

@@ -1,5 +1,5 @@
 -- `goes_on` compares a token's lexeme with what is left of a name: the parts that it lends are the lists that the definition takes. Assumes nothing.
-use Prim.Native.Nat.{ℕ, ◌+◌, ◌-◌}
+use Prim.Native.Nat.{ℕ, ◌+◌}
 use mathlib.Core.Path.{ap}
 use Rattle.runs.proofs.Naming.{parts-as-taken}
 use Rattle.runs.proofs.names.goes_on.Goals as goal

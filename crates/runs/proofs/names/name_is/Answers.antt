@@ -1,5 +1,4 @@
 -- `name_is` goes from token to token. The loop's invariant (`Naming`): the bytes of the tokens left are what is left of the name exactly where all are the name. Assumes nothing.
-use Prim.Native.Nat.{◌-◌}
 use native.Mathlib.Omega.{arith}
 use mathlib.Core.Path.{sym, ◌∙◌}
 use Rattle.token.specs.Line.{token_at}

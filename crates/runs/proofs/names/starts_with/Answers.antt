@@ -1,9 +1,7 @@
 -- `starts_with` compares byte by byte. The loop's invariant: the rest of `name` begins with the rest of `start` exactly where the whole does. Assumes nothing.
-use Prim.Native.Nat.{◌-◌}
 use native.Mathlib.Omega.{arith}
 use mathlib.Core.Path.{refl, sym, ◌∙◌}
 use Rattle.runs.proofs.Naming.{prefix-step, prefix-differs, prefix-short, prefix-end}
-use Rattle.runs.specs.Names.{prefix}
 use Rattle.runs.proofs.names.starts_with.Goals as goal
 
 pub loop-i-init : goal.loop-i-init

@@ -1,5 +1,4 @@
 -- `next_after` is where `skip_attr_refs` stops from the place after. Assumes nothing.
-use Prim.Native.Nat.{◌-◌}
 use native.Mathlib.Omega.{arith}
 use Rattle.runs.proofs.Ranges.{first-starts}
 use Rattle.runs.proofs.steps.next_after.Goals as goal

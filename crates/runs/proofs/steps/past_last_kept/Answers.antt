@@ -1,7 +1,7 @@
 -- `past_last_kept` steps along the run: the laws of `Reading`, at its begin, at a step and at its end. Assumes nothing.
-use Rattle.std.proofs.Common.{◌≡◌, ◌∙◌, ◌+◌, refl, ap, arith, subst, List, ℕ, length}
+use Rattle.std.proofs.Common.{◌∙◌, ◌+◌, refl, ap, arith, subst, List, ℕ, length}
 use Rattle.runs.specs.Places.{all, StartsAt}
-use Rattle.runs.proofs.Ranges.{Reading, reading-start, reading-next, reading-end}
+use Rattle.runs.proofs.Ranges.{reading-start, reading-next, reading-end}
 use Rattle.runs.proofs.steps.past_last_kept.Goals as goal
 
 pub loop-r-init : goal.loop-r-init

@@ -1,5 +1,4 @@
 -- `skip_attr_refs` finds the first token kept. The loop's invariant (`Left`): what is kept from here on is what is kept of the whole. Assumes nothing.
-use Prim.Native.Nat.{◌-◌}
 use native.Mathlib.Omega.{arith}
 use mathlib.Core.Path.{refl}
 use Rattle.runs.proofs.Ranges.{left-start, left-skip, left-done, left_end}

@@ -1,8 +1,8 @@
 -- `some_misplaced` compares each start with the end before it, and the last end with the text. The loop's invariant (`passed`): the rest decides as the whole does. Assumes nothing.
-use Prim.Native.Nat.{◌+◌, ◌*◌, ◌-◌}
+use Prim.Native.Nat.{◌+◌, ◌*◌}
 use native.Mathlib.Omega.{arith}
 use mathlib.Core.Path.{◌∙◌}
-use Rattle.token.proofs.Checks.{passed, passed_first, passed-before, passed-next, passed-end}
+use Rattle.token.proofs.Checks.{passed_first, passed-before, passed-next, passed-end}
 use Rattle.token.proofs.line.some_misplaced.Goals as goal
 
 pub loop-i-init : goal.loop-i-init

@@ -1,5 +1,4 @@
 -- `some_over` looks for a kind over 50. The loop's invariant: the rest holds one exactly where the whole does. Assumes nothing.
-use Prim.Native.Nat.{◌-◌}
 use native.Mathlib.Omega.{arith}
 use mathlib.Core.Path.{refl, ◌∙◌}
 use Rattle.token.proofs.Checks.{over-here, over-next, over-end}

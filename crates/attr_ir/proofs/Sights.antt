@@ -1,5 +1,5 @@
 -- What one token decides, by its kind, and the loop that looks from the left.
-use Prim.Native.Nat.{ℕ, ◌+◌, ◌*◌, ◌-◌, ◌≤◌, ◌<◌}
+use Prim.Native.Nat.{ℕ, ◌+◌, ◌*◌, ◌≤◌, ◌<◌}
 use native.Mathlib.Omega.{arith}
 use mathlib.Core.Bool.{Bool, true, false, cond, not, ◌&&◌, ◌||◌, and-false}
 use mathlib.Core.Path.{◌≡◌, refl, sym, ap, ◌∙◌}
@@ -19,7 +19,7 @@ use Rattle.runs.specs.Names.{same_bytes}
 use Rattle.runs.proofs.NamesLaws.{one-is, lexeme-one, lexeme-length, one_byte, not-one}
 use Rattle.runs.proofs.KeptLaws.{kind-is, is-kind, not-kind, kept-none, kept-first}
 use Rattle.runs.specs.Places.{all, StartsAt}
-use Rattle.attr_ir.specs.Look.{is_symbol, any, next_equals, symbol_sight, sight, decided, look}
+use Rattle.attr_ir.specs.Look.{is_symbol, next_equals, symbol_sight, sight, decided, look}
 
 -- what stands after a place, where the next kept token is at `next`
 module _ (kinds : List ℕ) (from to next : ℕ) (w : StartsAt all kinds from to next) (text pairs : List ℕ) where

@@ -1,5 +1,4 @@
 -- `attr_ir` is the definition by how the attribute is read. Assumes nothing.
-use Prim.Native.Nat.{◌-◌}
 use Rattle.attr_ir.proofs.Irs.{ir-shorthand, ir-positional, ir-named}
 use Rattle.attr_ir.proofs.attr_ir.Goals as goal
 

@@ -1,8 +1,6 @@
 -- `to_cut` looks for quotes only where a cut is asked for. Assumes nothing.
-use Prim.Native.Nat.{◌-◌}
 use mathlib.Core.Bool.{not}
 use mathlib.Core.Path.{refl, ap}
-use borrow.Author.Tests.{not-true, not-false}
 use Rattle.attr_ir.proofs.to_cut.Goals as goal
 
 pub returns-then-not-asked : goal.returns-then-not-asked

@@ -1,16 +1,13 @@
 -- `parse_attr` and `cut_positional` give the rows of an attribute and of a cut. Assumes nothing.
 use Rattle.std.proofs.Common.{◌≡◌, ◌+◌, ◌≤◌, arith, length, sym, ap, subst, ◌∙◌, true}
-use denote.Enum.Declared.{tag_of}
 use Rattle.token.specs.Line.{line_of}
 use Rattle.attr_ir.specs.declared.AttrIr.{AttrIr}
 use Rattle.attr_ir.specs.declared.AttrIr.TheVariants.{Positional}
 use Rattle.attr_ir.specs.Ir.{tokens_of}
 use Rattle.attr_ir.specs.Places.{Bounded}
-use Rattle.attr_ir.specs.contracts.AttrIr.{the_type}
 use Rattle.attribute.specs.Attribute.{ir_read, attribute}
-use Rattle.attribute.specs.Outcome.{Uncut}
 use Rattle.put_rows.proofs.Outcomes.{told, told-as}
-use Rattle.attribute.proofs.Outcomes.{most-few, not_first, uncut-not}
+use Rattle.attribute.proofs.Outcomes.{most-few}
 use Rattle.attribute.proofs.Whole.{whole-empty, whole-ir, whole-cut, whole-uncut, cut-some, cut-none, cut_later, in-own}
 use Rattle.attribute.proofs.+cut_positional_parse_attr.Goals as goal
 

@@ -1,5 +1,4 @@
 -- `attr_rows` writes what `parse_attr` does: an attribute of no tokens is one row of tag 1, one of one Word a row of tag 2. Assumes nothing.
-use Prim.Native.Nat.{◌-◌}
 use native.Mathlib.Omega.{arith}
 use mathlib.Core.Path.{sym, subst, ◌∙◌}
 use Rattle.token.specs.Line.{line_of}

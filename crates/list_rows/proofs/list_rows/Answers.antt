@@ -1,6 +1,5 @@
 -- `list_rows` writes the rows of the attributes, first to last. The loop keeps that the rows written and the rows of the attributes left make the
 -- list's rows, and that there are no more of them than tokens passed. Assumes nothing.
-use Prim.Native.Nat.{◌-◌}
 use native.Mathlib.Omega.{arith}
 use lib.ListN.{length, take}
 use Rattle.list_rows.proofs.Attributes.{comma-room, end-room, next, last}
@@ -19,7 +18,7 @@ attr_rows-written-requires c =
     let a = c.args in
     let l = c.loop-j in
     let wide = c.wide-comma in
-     record { lent = p.lent; from_le_to = comma-room (line_of a.kinds.now a.text.now a.pairs.now) a.commas.now a.n a.end.0 a.block a.rows.now p.n_in_bounds.0 l.rows l.from l.at l.id l.j l.invariant (length a.kinds.now) p.n_in_bounds.1 p.n_in_bounds.2 wide.result c.loop-j-test.true wide.ensures }
+    record { lent = p.lent; from_le_to = comma-room (line_of a.kinds.now a.text.now a.pairs.now) a.commas.now a.n a.end.0 a.block a.rows.now p.n_in_bounds.0 l.rows l.from l.at l.id l.j l.invariant (length a.kinds.now) p.n_in_bounds.1 p.n_in_bounds.2 wide.result c.loop-j-test.true wide.ensures }
 
 pub overflow_add-from : goal.overflow_add-from
 overflow_add-from c =
@@ -44,7 +43,7 @@ attr_rows-last-requires c =
     let p = c.requires in
     let a = c.args in
     let l = c.loop-j in
-     record { lent = p.lent; from_le_to = end-room (line_of a.kinds.now a.text.now a.pairs.now) a.commas.now a.n a.end.0 a.block a.rows.now p.n_in_bounds.0 l.rows l.from l.at l.id l.j l.invariant (length a.kinds.now) p.n_in_bounds.1 p.n_in_bounds.2 }
+    record { lent = p.lent; from_le_to = end-room (line_of a.kinds.now a.text.now a.pairs.now) a.commas.now a.n a.end.0 a.block a.rows.now p.n_in_bounds.0 l.rows l.from l.at l.id l.j l.invariant (length a.kinds.now) p.n_in_bounds.1 p.n_in_bounds.2 }
 
 pub returns : goal.returns
 returns c =

@@ -1,5 +1,4 @@
 -- `one_word` tests how many tokens there are, then the kind of the first. Assumes nothing.
-use Prim.Native.Nat.{◌-◌}
 use mathlib.Core.Path.{refl}
 use borrow.Author.Tests.{eq-eqb, ne_eqb}
 use Rattle.list_rows.proofs.one_word.Goals as goal

@@ -1,5 +1,4 @@
 -- `equals_sign` asks for the kind, for the length and for the one byte, which stands within the text. Assumes nothing.
-use Prim.Native.Nat.{◌-◌}
 use native.Mathlib.Omega.{arith}
 use mathlib.Core.Path.{sym, ◌∙◌}
 use Rattle.attr_ir.proofs.Sights.{equals-not-kind, equals-not-one, equals-byte}

@@ -1,5 +1,4 @@
 -- `look` goes from kept token to kept token until one decides. The loop's invariant (`Looking`): the tokens left are read as the whole is. Assumes nothing.
-use Prim.Native.Nat.{◌-◌}
 use native.Mathlib.Omega.{arith}
 use mathlib.Core.Bool.{true, false}
 use mathlib.Core.Path.{sym, ap, ◌∙◌}

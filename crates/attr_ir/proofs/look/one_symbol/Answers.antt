@@ -1,5 +1,5 @@
 -- `one_symbol` asks for the kind and for the length, which is the lexeme's. Assumes nothing.
-use Prim.Native.Nat.{ℕ, ◌-◌}
+use Prim.Native.Nat.{ℕ}
 use native.Mathlib.Omega.{arith}
 use mathlib.Core.Bool.{◌&&◌}
 use mathlib.Core.Path.{ap, ◌∙◌}

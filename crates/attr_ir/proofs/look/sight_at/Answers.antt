@@ -1,5 +1,4 @@
 -- `sight_at` is the definition by the token's kind, and by the next kept token where that is asked for. Assumes nothing.
-use Prim.Native.Nat.{◌-◌}
 use native.Mathlib.Omega.{arith}
 use mathlib.Core.Path.{sym, ◌∙◌}
 use borrow.Author.Tests.{eq-eqb, ne_eqb}

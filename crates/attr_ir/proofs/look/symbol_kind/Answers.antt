@@ -1,5 +1,4 @@
 -- `symbol_kind` tells Dots, Hash and Percent from other kinds, one way through the match for each. Assumes nothing.
-use Prim.Native.Nat.{◌-◌}
 use mathlib.Core.Path.{sym}
 use borrow.Author.Tests.{ne_eqb}
 use Rattle.attr_ir.proofs.look.symbol_kind.Goals as goal

@@ -1,5 +1,4 @@
 -- `symbol_sight` is the definition by whether there is a next token, which begins at `next` and is kept. Assumes nothing.
-use Prim.Native.Nat.{◌-◌}
 use Rattle.attr_ir.proofs.Sights.{symbol-none, symbol-short, symbol-note}
 use Rattle.attr_ir.proofs.look.symbol_sight.Goals as goal
 

@@ -1,5 +1,4 @@
 -- `name_of` gives the first name that is the same, by the tests that failed before it. Assumes nothing.
-use Prim.Native.Nat.{◌-◌}
 use mathlib.Core.Path.{sym, ◌∙◌}
 use Rattle.attr_ir.specs.Ir.{name_of}
 use Rattle.attr_ir.proofs.naming.name_of.Goals as goal

@@ -1,5 +1,4 @@
 -- `name_run` trims: a run without Whitespace inside begins and ends where the trimmed one does. Assumes nothing.
-use Prim.Native.Nat.{◌-◌}
 use native.Mathlib.Omega.{arith}
 use mathlib.Core.Path.{sym, ◌∙◌}
 use Rattle.attr_ir.proofs.Values.{part_in}

@@ -1,5 +1,4 @@
 -- `parse_key_value_attr` splits at the first EqualSigns: the name's run stands before it, the value's behind, and the name decides the case. Assumes nothing.
-use Prim.Native.Nat.{◌-◌}
 use Rattle.attr_ir.proofs.Values.{named-options, named-role, named-id, named-plain, named_other}
 use Rattle.attr_ir.proofs.naming.parse_key_value_attr.Goals as goal
 

@@ -1,5 +1,4 @@
 -- `find_symbol` looks for a Dots, Hash or Percent. The loop's invariant (`Sought`): no kept token before here is one. Assumes nothing.
-use Prim.Native.Nat.{◌-◌}
 use native.Mathlib.Omega.{arith}
 use Rattle.runs.proofs.Finds.{sought-start, sought-next, sought-here, sought-end}
 use Rattle.attribute.proofs.SymbolKinds.{symbol-not, symbol-dots, symbol-hash, symbol-percent}

@@ -1,5 +1,4 @@
 -- `put_ir` writes what each case of an attribute gives that is not cut. Assumes nothing.
-use Prim.Native.Nat.{◌-◌}
 use native.Mathlib.Omega.{arith}
 use mathlib.Core.Path.{refl, sym, ap, subst}
 use Rattle.token.specs.Line.{line_of}
@@ -61,7 +60,7 @@ put_groups-requires c =
     let e = c.in-Options.is in
     let line = line_of a.kinds.now a.text.now a.pairs.now in
     let w = within-as line a.ir p.uncut _ e in
-     record { count_in_bounds = (w.within, p.lent.few, λ z. omega (arith, z)); count_in_bounds_2 = omega (arith, p.ir_in_bounds, ap most_rows e) }
+    record { count_in_bounds = (w.within, p.lent.few, λ z. omega (arith, z)); count_in_bounds_2 = omega (arith, p.ir_in_bounds, ap most_rows e) }
 
 pub put_groups-requires-in-Roles : goal.put_groups-requires-in-Roles
 put_groups-requires-in-Roles c =
@@ -70,7 +69,7 @@ put_groups-requires-in-Roles c =
     let e = c.in-Roles.is in
     let line = line_of a.kinds.now a.text.now a.pairs.now in
     let w = within-as line a.ir p.uncut _ e in
-     record { count_in_bounds = (w.within, p.lent.few, λ z. omega (arith, z)); count_in_bounds_2 = omega (arith, p.ir_in_bounds, ap most_rows e) }
+    record { count_in_bounds = (w.within, p.lent.few, λ z. omega (arith, z)); count_in_bounds_2 = omega (arith, p.ir_in_bounds, ap most_rows e) }
 
 pub put_id-requires : goal.put_id-requires
 put_id-requires c =

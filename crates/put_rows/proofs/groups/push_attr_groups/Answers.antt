@@ -1,5 +1,4 @@
 -- `push_attr_groups` writes a row for each group. The loop's invariant (`Grouping`): the rows written and those of the groups left are those of the whole. Assumes nothing.
-use Prim.Native.Nat.{◌-◌}
 use native.Mathlib.Omega.{arith}
 use Rattle.put_rows.proofs.GroupRows.{grouping-start, grouping-next, grouping-done}
 use Rattle.put_rows.proofs.groups.push_attr_groups.Goals as goal
@@ -14,7 +13,7 @@ pub put_group-n-requires : goal.put_group-n-requires
 put_group-n-requires c =
     let f = c.find_kind-end.ensures.found in
     let l = c.loop-to.invariant in
-    let p = c.requires in  record { from_le_to = (omega (arith, f.low), omega (arith, f.high), p.from_le_to.2); from_in_bounds = omega (arith, l.few, l.low, l.high, l.long, p.from_in_bounds, f.high, f.low) }
+    let p = c.requires in record { from_le_to = (omega (arith, f.low), omega (arith, f.high), p.from_le_to.2); from_in_bounds = omega (arith, l.few, l.low, l.high, l.long, p.from_in_bounds, f.high, f.low) }
 
 pub returns-then-stop-end : goal.returns-then-stop-end
 returns-then-stop-end c =

@@ -1,5 +1,4 @@
 -- `put_group` writes one row for a group that has tokens when it is trimmed, and none for another. Assumes nothing.
-use Prim.Native.Nat.{◌-◌}
 use native.Mathlib.Omega.{arith}
 use mathlib.Core.Path.{sym, subst}
 use Rattle.put_rows.proofs.GroupRows.{group-none, group-some}

@@ -1,5 +1,4 @@
 -- `put_diagnostic` writes one row, whose numbers fit since its place does. Assumes nothing.
-use Prim.Native.Nat.{◌-◌}
 use native.Mathlib.Omega.{arith}
 use mathlib.Core.Path.{sym, ap, subst}
 use Rattle.put_rows.proofs.GroupRows.{wrote-same}

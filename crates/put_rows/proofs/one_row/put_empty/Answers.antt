@@ -1,5 +1,4 @@
 -- `put_empty` writes the one row of an attribute of which nothing is left. Assumes nothing.
-use Prim.Native.Nat.{◌-◌}
 use native.Mathlib.Omega.{arith}
 use mathlib.Core.Path.{sym, ap, subst}
 use Rattle.put_rows.proofs.GroupRows.{wrote-same}

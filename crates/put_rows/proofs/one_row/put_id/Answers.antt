@@ -1,5 +1,4 @@
 -- `put_id` writes the one row of an id, by whether it has tokens and whether the list has an id already. Assumes nothing.
-use Prim.Native.Nat.{◌-◌}
 use native.Mathlib.Omega.{arith}
 use mathlib.Core.Bool.{true}
 use mathlib.Core.Path.{sym, ap, subst, ◌∙◌}

@@ -1,5 +1,4 @@
 -- `put_positional` writes the row of the run that `run_of` gives. Assumes nothing.
-use Prim.Native.Nat.{◌-◌}
 use native.Mathlib.Omega.{arith}
 use mathlib.Core.Path.{sym, subst}
 use Rattle.put_rows.proofs.GroupRows.{positional-row}

@@ -1,5 +1,4 @@
 -- `find_stop` looks for the next symbol. The loop's invariant (`Stopping`): no kept token before here is one. Assumes nothing.
-use Prim.Native.Nat.{◌-◌}
 use native.Mathlib.Omega.{arith}
 use mathlib.Core.Path.{sym, ◌∙◌}
 use Rattle.put_rows.proofs.GroupRows.{stopping-start, stopping-next, stopping-here, stopping-end}

@@ -1,5 +1,5 @@
 -- `is_stop` tells a Hash, a Percent and a one-byte Dots from other tokens, by its kind and its length. Assumes nothing.
-use Prim.Native.Nat.{ℕ, ◌-◌}
+use Prim.Native.Nat.{ℕ}
 use native.Mathlib.Omega.{arith}
 use mathlib.Core.Path.{sym, ap, ◌∙◌}
 use lib.Dec.{eqb}

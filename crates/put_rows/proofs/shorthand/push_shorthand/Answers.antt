@@ -1,5 +1,4 @@
 -- `push_shorthand` writes a row for each symbol. The loop's invariant (`Shorting`): the rows written and those of the symbols left are those of the whole. Assumes nothing.
-use Prim.Native.Nat.{◌-◌}
 use native.Mathlib.Omega.{arith}
 use mathlib.Core.Path.{refl, sym, subst, ◌∙◌}
 use Rattle.put_rows.proofs.Shorts.{shorting-start, shorting-last, shorting-second, shorting-next, shorting-end}
@@ -61,7 +60,7 @@ returns-then-both c =
 pub find_stop-end-requires : goal.find_stop-end-requires
 find_stop-end-requires c =
     let p = c.requires in
-     record { lent = p.lent; from_le_to = (omega (arith, c.first_kept-start.ensures.part.part.mid), p.from_le_to.1) }
+    record { lent = p.lent; from_le_to = (omega (arith, c.first_kept-start.ensures.part.part.mid), p.from_le_to.1) }
 
 pub run_of-run-requires : goal.run_of-run-requires
 run_of-run-requires c =

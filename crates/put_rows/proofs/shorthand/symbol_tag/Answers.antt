@@ -1,5 +1,4 @@
 -- `symbol_tag` gives the tag of a symbol's row, one way through the match for each. Assumes nothing.
-use Prim.Native.Nat.{◌-◌}
 use mathlib.Core.Path.{sym}
 use borrow.Author.Tests.{ne_eqb}
 use Rattle.put_rows.proofs.shorthand.symbol_tag.Goals as goal

@@ -1,5 +1,4 @@
 -- `put_one` writes one row, and there is one row more. Assumes nothing.
-use Prim.Native.Nat.{◌-◌}
 use Rattle.put_rows.proofs.GroupRows.{wrote-row}
 use Rattle.put_rows.proofs.single.put_one.Goals as goal
 

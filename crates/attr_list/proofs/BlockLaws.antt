@@ -1,5 +1,5 @@
 -- A line of one token is no block attribute list.
-use Rattle.std.specs.Prelude.{ℕ, ◌-◌, ◌<◌, Bool, true, false, not, ◌&&◌, ◌≡◌, refl, List, [], ◌∷◌, eqb, length}
+use Rattle.std.specs.Prelude.{ℕ, ◌<◌, Bool, true, false, not, ◌&&◌, ◌≡◌, refl, List, [], ◌∷◌, eqb, length}
 use Rattle.std.proofs.Common.{arith, ne_eqb, eqb-true}
 use Rattle.token.specs.Kind.{backslash, close_bracket, open_bracket}
 use Rattle.attr_list.specs.Block.{is_block_attr_list}

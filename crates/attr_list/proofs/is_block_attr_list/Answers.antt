@@ -1,5 +1,4 @@
 -- `is_block_attr_list` refuses by the number of the checks, or answers by the kinds. Assumes nothing.
-use Prim.Native.Nat.{◌-◌}
 use mathlib.Core.Path.{sym, ◌∙◌}
 use borrow.Author.Tests.{eq-eqb, ne_eqb}
 use Rattle.attr_list.specs.Block.{block_line}

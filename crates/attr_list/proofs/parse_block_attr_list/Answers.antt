@@ -1,5 +1,4 @@
 -- The block entry: 1 to 7, then the list; demand 3 holds of every reading. Assumes nothing.
-use Prim.Native.Nat.{◌-◌}
 use native.Mathlib.Omega.{arith}
 use mathlib.Core.Path.{sym, ◌∙◌}
 use lib.ListN.{length}
@@ -17,7 +16,7 @@ returns-then-refused-ne0 c =
 pub read_list-requires : goal.read_list-requires
 read_list-requires c =
     let a = c.args in
-    let z = sym c.if-refused-ne0.false ∙ c.lent_refusal-refused.ensures in  record { lent = read-lent most_tokens a.kinds.now a.text.now a.pairs.now (length a.rows.now) (omega arith) z; kinds_in_bounds = read-room most_tokens a.kinds.now a.text.now a.pairs.now (length a.rows.now) (omega arith) z }
+    let z = sym c.if-refused-ne0.false ∙ c.lent_refusal-refused.ensures in record { lent = read-lent most_tokens a.kinds.now a.text.now a.pairs.now (length a.rows.now) (omega arith) z; kinds_in_bounds = read-room most_tokens a.kinds.now a.text.now a.pairs.now (length a.rows.now) (omega arith) z }
 
 pub returns : goal.returns
 returns c =

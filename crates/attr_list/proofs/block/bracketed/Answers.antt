@@ -1,5 +1,4 @@
 -- `bracketed` is the definition test by test; a line of one token cannot be both brackets. Assumes nothing.
-use Prim.Native.Nat.{◌-◌}
 use borrow.Author.Tests.{eq-eqb, ne_eqb}
 use Rattle.attr_list.proofs.BlockLaws.{single-not}
 use Rattle.attr_list.specs.Block.{is_block_attr_list}

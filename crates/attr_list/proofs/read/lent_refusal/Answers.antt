@@ -1,7 +1,5 @@
 -- `lent_refusal` gives the first of 1 to 7 that applies. Assumes nothing.
-use Prim.Native.Nat.{◌-◌}
 use mathlib.Core.Path.{sym, ◌∙◌}
-use borrow.Author.Tests.{not-true, not-false}
 use Rattle.attr_list.proofs.Readings.{refused-line, refused-room, refused_none}
 use Rattle.token.specs.Line.{line_of}
 use Rattle.attr_list.proofs.read.lent_refusal.Goals as goal

@@ -1,12 +1,10 @@
 -- `read_link` reads an empty list, then as the look says. Assumes nothing.
-use Prim.Native.Nat.{◌-◌}
 use native.Mathlib.Omega.{arith}
 use Rattle.token.specs.Line.{line_of}
 use Rattle.attr_list.specs.Reading.{text_to, read_by}
 use Rattle.attr_list.specs.Entry.{Link}
 use Rattle.closing.specs.declared.LinkMacro.TheVariants.{AsList, AsText}
 use Rattle.attr_list.proofs.Readings.{closed-gives, open_gives, link-gives, text-among}
-use Rattle.attr_list.proofs.read.read_link.Reads as reads
 use Rattle.attr_list.proofs.read.read_link.Goals as goal
 
 pub bounds-kinds-0 : goal.bounds-kinds-0
@@ -23,7 +21,7 @@ read_text-requires c =
     let a = c.args in
     let link-macro = c.link_macro-holds in
     let holds = c.in-AsText in
-     record { lent = p.lent; kinds_in_bounds = (p.kinds_in_bounds, text-among a.kinds.now a.pairs.now link-macro.result link-macro.ensures p.lent.some holds.end holds.is) }
+    record { lent = p.lent; kinds_in_bounds = (p.kinds_in_bounds, text-among a.kinds.now a.pairs.now link-macro.result link-macro.ensures p.lent.some holds.end holds.is) }
 
 pub returns-in-AsList : goal.returns-in-AsList
 returns-in-AsList c =

@@ -1,10 +1,8 @@
 -- `read_list` reads an empty list, then a list with its commas in either array. Assumes nothing.
-use Prim.Native.Nat.{◌-◌}
 use native.Mathlib.Omega.{arith}
 use Rattle.token.specs.Line.{line_of}
 use Rattle.attr_list.specs.Reading.{list_of}
 use Rattle.attr_list.proofs.Readings.{closed-gives, open_gives}
-use Rattle.attr_list.proofs.read.read_list.Reads as reads
 use Rattle.attr_list.proofs.read.read_list.Goals as goal
 
 pub bounds-kinds-0 : goal.bounds-kinds-0

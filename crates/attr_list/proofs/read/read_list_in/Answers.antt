@@ -1,9 +1,7 @@
 -- `read_list_in` reads the attributes between the dividing commas up to the closing bracket, or refuses with 8 before anything is written. Assumes
 -- nothing.
-use Prim.Native.Nat.{◌-◌}
 use native.Mathlib.Omega.{arith}
 use Rattle.attr_list.proofs.Readings.{end_is, list-nowhere, list-commas, list-gives}
-use Rattle.attr_list.proofs.read.read_list_in.Reads as reads
 use Rattle.attr_list.proofs.read.read_list_in.Goals as goal
 
 pub closing_bracket-closing-requires : goal.closing_bracket-closing-requires
@@ -26,7 +24,7 @@ list_rows-written-requires c =
     let closing = c.in-At in
     let w = end_is a.kinds.now a.text.now a.pairs.now a.full closing-bracket.result closing-bracket.ensures p.lent.some closing.end closing.is in
     let d = find-delimiters.ensures in
-     record { lent = p.lent; n_in_bounds = (omega (arith, d.few, d.within, p.kinds_in_bounds.1), omega (arith, w.among), omega (arith, w.among, p.kinds_in_bounds.0)); ascending = list-commas a.kinds.now a.text.now a.pairs.now a.full closing-bracket.result closing-bracket.ensures p.lent.some closing.end closing.is find-delimiters.new.commas find-delimiters.result.commas find-delimiters.ensures.places }
+    record { lent = p.lent; n_in_bounds = (omega (arith, d.few, d.within, p.kinds_in_bounds.1), omega (arith, w.among), omega (arith, w.among, p.kinds_in_bounds.0)); ascending = list-commas a.kinds.now a.text.now a.pairs.now a.full closing-bracket.result closing-bracket.ensures p.lent.some closing.end closing.is find-delimiters.new.commas find-delimiters.result.commas find-delimiters.ensures.places }
 
 pub overflow_add-result : goal.overflow_add-result
 overflow_add-result c =

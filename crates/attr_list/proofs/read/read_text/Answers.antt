@@ -1,5 +1,4 @@
 -- `read_text` writes the one row of a link's text, or refuses with 8 before it. Assumes nothing.
-use Prim.Native.Nat.{◌-◌}
 use native.Mathlib.Omega.{arith}
 use Rattle.attr_list.proofs.Readings.{text-not, text-gives, text-fits}
 use Rattle.attr_list.proofs.read.read_text.Goals as goal

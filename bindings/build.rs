@@ -12,10 +12,7 @@ fn main() {
     let library = folder.join("libtelfjost.a");
     println!("cargo:rerun-if-changed={}", library.display());
     if !library.is_file() {
-        eprintln!(
-            "no {}: run `tools/library`, or name its folder by TELFJOST_LIB_DIR",
-            library.display()
-        );
+        eprintln!("no {}: run `tools/library`, or name its folder by TELFJOST_LIB_DIR", library.display());
         process::exit(1);
     }
     println!("cargo:rustc-link-search=native={}", folder.display());

@@ -8,6 +8,5 @@ use Rattle.telfjost.proofs.lists.telfjost_block_attr_list.Goals as goal
 pub returns : goal.returns
 returns c =
     let a = c.args in
-    let r = c.parse_block_attr_list in
     let n = c.numbers in
-    list-outcome Block (line_of a.kinds.now a.text.now a.pairs.now) a.rows.now _ n.result r.result r.ensures n.ensures
+    list-outcome Block (line_of a.kinds.now a.text.now a.pairs.now) a.rows.now _ n.result _ (assumption c) n.ensures

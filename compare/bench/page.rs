@@ -182,10 +182,11 @@ fn processor() -> String {
 pub fn page(tables: &[Table]) -> String {
     let arena = option_env!("BENCH_ARENA").unwrap_or("an unknown arena");
     let rustc = option_env!("BENCH_RUSTC").unwrap_or("an unknown rustc");
+    let kit = option_env!("BENCH_KIT").unwrap_or("an unknown kit");
     let mut out = format!(
         "# Benchmark
 
-Written by `./bench`; measured on {}, {} ({rustc}).
+Written by `./bench`; measured on {}, {} ({rustc}). The library is that of {kit}.
 
 The reader (`libtelfjost.a`, called through its C functions) and the Rust of asciidork-parser
 0.38.2 (release build: -O, no debug assertions, no overflow checks), on the same lines, in the same

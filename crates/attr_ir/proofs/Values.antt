@@ -1,34 +1,36 @@
 -- Names and values of a named attribute.
-use Prim.Native.Nat.{ℕ, ◌+◌, ◌≤◌, ◌<◌}
+use Prim.Native.Nat.{ℕ, ◌+◌, ◌≤◌, ◌<◌, min}
 use native.Mathlib.Omega.{arith}
 use native.Mathlib.Decide.{dec_lt}
-use mathlib.Core.Bool.{Bool, true, false, cond, ◌||◌}
-use mathlib.Core.Path.{◌≡◌, refl, sym, ap, ◌∙◌}
+use mathlib.Core.Bool.{true, false}
+use mathlib.Core.Path.{◌≡◌, refl, sym, ap, subst, ◌∙◌}
 use mathlib.Core.List.{List, [], ◌∷◌}
 use lib.ListN.{get_or}
+use Rattle.std.specs.Borrow.{Bor}
+use Rattle.runs.specs.declared.places.Places as at
 use Rattle.token.specs.declared.Run.{Run}
+use Rattle.token.specs.declared.TokenPlace.{TokenPlace}
 use Rattle.token.specs.Kind.{whitespace}
 use Rattle.token.specs.Line.{Line, Token, line_of, token_at}
 use Rattle.runs.specs.Run.{kept, is_whitespace, is_equals, without, unquote, run_of, in_run}
-use Rattle.runs.specs.Names.{bytes, same_bytes}
+use Rattle.runs.specs.Names.{bytes}
 use Rattle.runs.specs.Places.{FoundIn, all, StartsAt, Part, FoundAt}
 use Rattle.runs.proofs.KeptLaws.{is-kind, not-kind, kept-none, kept-first}
 use Rattle.attr_ir.specs.declared.Name.{Name}
 use Rattle.attr_ir.specs.declared.Name.TheVariants.{Options, Role, Id, Plain, Other}
 use Rattle.attr_ir.specs.declared.AttrIr.{AttrIr}
 use Rattle.attr_ir.specs.declared.AttrIr.TheVariants as ir
-use Rattle.attr_ir.specs.Ir.{Ir, options, roles, ident, plain, named, name_tokens, less_first, value, value_tokens, options_name, opts_name, role_name, id_name, subs_name, cols_name, name_of, named_ir, key_value_ir, runs_of, tokens_of}
+use Rattle.attr_ir.specs.Ir.{Ir, options, roles, ident, plain, named, name_tokens, less_first, value, value_tokens, name_of, named_ir, key_value_ir, runs_of, tokens_of}
 use Rattle.attr_ir.specs.Places.{InLine, Bounded, IrOf}
 
--- ---- what a name asks for, by the six tests in order
+-- ---- what holds of the places of some tokens holds of the tokens
 
-abbrev pick_name : (a b c d e f : Bool) → Name
-pick_name a b c d e f = cond (a || b) Options (cond c Role (cond d Id (cond (e || f) Plain Other)))
+pub of-places : (P : List ℕ → ℕ → ℕ → Type 0) (p : at.Places) {ks : Bor (List ℕ)} {from to : TokenPlace} → record { kinds : p.kinds ≡ ks; from : p.from ≡ from; to : p.to ≡ to } → P p.kinds.now p.from.0 p.to.0 → P ks.now from.0 to.0
+of-places P p {ks} {from} {to} e w =
+    subst (λ (x : Bor (List ℕ)). P x.now from.0 to.0) e.kinds (subst (λ (x : TokenPlace). P p.kinds.now x.0 to.0) e.from (subst (λ (x : TokenPlace). P p.kinds.now p.from.0 x.0) e.to w))
 
-pub name-asks : (bs : List ℕ) (a b c d e f : Bool) → a ≡ same_bytes bs options_name → b ≡ same_bytes bs opts_name → c ≡ same_bytes bs role_name → d ≡ same_bytes bs id_name → e ≡ same_bytes bs subs_name → f ≡ same_bytes bs cols_name
-    → cond (a || b) Options (cond c Role (cond d Id (cond (e || f) Plain Other))) ≡ name_of bs
-unfolding name_of
-name-asks bs a b c d e f ea eb ec ed ee ef = rw (ea, eb, ec, ed, ee, ef)
+pub equals-found : (p : at.Places) (m : ℕ) {ks : Bor (List ℕ)} {from to : TokenPlace} → record { kinds : p.kinds ≡ ks; from : p.from ≡ from; to : p.to ≡ to } → FoundAt is_equals p.kinds.now p.from.0 p.to.0 m → FoundAt is_equals ks.now from.0 to.0 m
+equals-found p m e w = of-places (λ ks from to. FoundAt is_equals ks from to m) p e w
 
 -- ---- the value
 
@@ -79,16 +81,16 @@ in-in kinds from to high r b w = record { within = omega (arith, w.within); few 
 
 -- ---- a named attribute
 
-less-first : (l : Line) (from to m after : ℕ) → FoundIn l is_equals from to m → m ≤ to → (m < to → after ≡ m + 1) → (to ≤ m → after ≡ to) → less_first (kept l m to) ≡ kept l after to
-less-first l from to m after w high more none = go (dec_lt m to)
+less-first : (l : Line) (from to m after : ℕ) → FoundIn l is_equals from to m → m ≤ to → after ≡ min to (m + 1) → less_first (kept l m to) ≡ kept l after to
+less-first l from to m after w high next = go (dec_lt m to)
   where
     go : Dec (m < to) → less_first (kept l m to) ≡ kept l after to
-    go (yes h) = ap less_first (kept-first l m to h (w.kept h)) ∙ ap (λ (n : ℕ). kept l n to) (sym (more h))
-    go (no h) =
-        let e : after ≡ to = none (omega arith) in
-        ap less_first (kept-none l m to (omega arith)) ∙ sym (kept-none l after to (omega arith))
+    go (yes h) =
+        let e : after ≡ m + 1 = omega (arith, next) in
+        ap less_first (kept-first l m to h (w.kept h)) ∙ ap (λ (n : ℕ). kept l n to) (sym e)
+    go (no h) = ap less_first (kept-none l m to (omega arith)) ∙ sym (kept-none l after to (omega (arith, next)))
 
-module _ (kinds text pairs : List ℕ) (from to m after : ℕ) (w : FoundAt is_equals kinds from to m) (more : m < to → after ≡ m + 1) (none : to ≤ m → after ≡ to) (past : m ≤ after)
+module _ (kinds text pairs : List ℕ) (from to m after : ℕ) (w : FoundAt is_equals kinds from to m) (next : after ≡ min to (m + 1))
     (v : Run) (vr : (text pairs : List ℕ) → v ≡ run_of (value (kept (line_of kinds text pairs) after to))) (vp : Part value kinds after to v)
     (asked : Name) (an : asked ≡ name_of (bytes (without is_whitespace (kept (line_of kinds text pairs) from m)))) where
   abbrev Answered : AttrIr → Type 0
@@ -98,10 +100,10 @@ module _ (kinds text pairs : List ℕ) (from to m after : ℕ) (w : FoundAt is_e
   unfolding key_value_ir name_tokens value_tokens
   ir-is a e =
       let f = w.found text pairs in
-      sym (rw (← f.before, ← f.after, less-first (line_of kinds text pairs) from to m after f w.high more none, ← an, e))
+      sym (rw (← f.before, ← f.after, less-first (line_of kinds text pairs) from to m after f w.high next, ← an, e))
 
   inside : InLine kinds from to v
-  inside = part_in value kinds after to from to v (omega (arith, w.low)) (omega arith) vp
+  inside = part_in value kinds after to from to v (omega (arith, w.low, w.high, next)) (omega arith) vp
 
   module _ (wrap : List Token → Ir) (made : Run → AttrIr) (a : Name) (e : asked ≡ a)
       (ir-wrap : named_ir a (without is_whitespace (kept (line_of kinds text pairs) from m)) (value (kept (line_of kinds text pairs) after to)) ≡ wrap (value (kept (line_of kinds text pairs) after to)))
@@ -127,15 +129,15 @@ module _ (kinds text pairs : List ℕ) (from to m after : ℕ) (w : FoundAt is_e
   unfolding named_ir
   named-id e = answered ident ir.Id Id e refl refl refl inside
 
-  module _ (n : Run) (nr : (text pairs : List ℕ) → n ≡ run_of (without is_whitespace (kept (line_of kinds text pairs) from m))) (ni : InLine kinds from m n) where
+  module _ (n : Run) (nr : n ≡ run_of (without is_whitespace (kept (line_of kinds text pairs) from m))) (ni : InLine kinds from m n) where
     pub named-plain : asked ≡ Plain → Answered (ir.Plain n v)
     unfolding named_ir
     named-plain e =
-        let x : plain n v ≡ key_value_ir (kept (line_of kinds text pairs) from to) = rw (nr text pairs, vr text pairs) (ir-is Plain e) in
+        let x : plain n v ≡ key_value_ir (kept (line_of kinds text pairs) from to) = rw (nr, vr text pairs) (ir-is Plain e) in
         record { answer = ap runs_of x; held = x; within = (in-in kinds from m to n w.high ni, inside) }
 
     pub named_other : asked ≡ Other → Answered (ir.Named n v)
     unfolding named_ir
     named_other e =
-        let x : named n v ≡ key_value_ir (kept (line_of kinds text pairs) from to) = rw (nr text pairs, vr text pairs) (ir-is Other e) in
+        let x : named n v ≡ key_value_ir (kept (line_of kinds text pairs) from to) = rw (nr, vr text pairs) (ir-is Other e) in
         record { answer = ap runs_of x; held = x; within = (in-in kinds from m to n w.high ni, inside) }

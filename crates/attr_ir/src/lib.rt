@@ -1,36 +1,31 @@
 // What an attribute is: its reading decided from the left, and its runs.
 #![tactic(auto)]
 
-ghost use Rattle.std.specs.Prelude.{◌≡◌, ◌&&◌, not, List, ℕ, ◌≤◌, length};
+ghost use Rattle.std.specs.Prelude.{◌≡◌, ◌&&◌, ◌||◌, not, List, ℕ, eqb};
+ghost use Rattle.token.specs.Kind.{dots, hash, percent};
 ghost use Rattle.token.specs.Line.{line_of};
-ghost use Rattle.token.specs.Lent.{Lent, line};
+ghost use Rattle.token.specs.Checked.{line_in};
 ghost use Rattle.runs.specs.Run.{kept, quoted};
 ghost use Rattle.attr_ir.specs.Ir.{attr_ir};
 ghost use Rattle.attr_ir.specs.Places.{IrOf};
 
-use runs::{quoted, run_of, unquote};
-use token::{Run, TokenPlace};
+use runs::places::{Places, Tokens};
+use token::Run;
+use token::kind::TokenKind;
 
 mod look;
 mod naming;
 
 // How an attribute is read; a positional has its note.
-#[derive(Clone, Copy)]
+#[derive(Clone, Copy, PartialEq, Eq)]
 pub enum Reading {
     Shorthand,
     Positional(bool),
     Named,
 }
 
-// What one token decides, looked at from the left: how the attribute is read, or nothing yet, with the note so far.
-#[derive(Clone, Copy)]
-pub enum Sight {
-    Is(Reading),
-    On(bool),
-}
-
 // What a name asks for; `Plain` is `subs` or `cols`.
-#[derive(Clone, Copy)]
+#[derive(Clone, Copy, PartialEq, Eq)]
 pub enum Name {
     Options,
     Role,
@@ -39,8 +34,8 @@ pub enum Name {
     Other,
 }
 
-// An attribute by its runs. `cut` says whether a positional is to be cut.
-#[derive(Clone, Copy)]
+// An attribute by its runs. `cut` says whether a positional is to be cut: a flag of the run and no variant, since its row is the same where it is not cut.
+#[derive(Clone, Copy, PartialEq, Eq)]
 pub enum AttrIr {
     Positional { run: Run, cut: bool },
     Named { name: Run, value: Run },
@@ -51,41 +46,38 @@ pub enum AttrIr {
     Shorthand(Run),
 }
 
-// Whether a positional is to be cut, of the tokens kept from `from` up to `to`: it is asked for, and no quotes are taken. Most are not asked to be
-// cut, and their ends are then not looked for.
-fn to_cut(kinds: &[u8], from: TokenPlace, to: TokenPlace, asked: bool) -> bool
-    requires { (from.0 ≤ to.0) × (to.0 ≤ length kinds.now) }
-    ensures { (text pairs : List ℕ) → result ≡ (asked && not (quoted (kept (line_of kinds.now text pairs) from.0 to.0))) }
+// Whether a token of this kind is a symbol, of whatever length: Dots, Hash or Percent.
+pub fn symbol_kind(kind: u8) -> bool
+    ensures { result ≡ (eqb kind dots || eqb kind hash || eqb kind percent) }
 {
-    if !asked {
-        return false;
-    }
-    !quoted(kinds, from, to)
+    matches!(
+        TokenKind::try_from(kind),
+        Ok(TokenKind::Dots | TokenKind::Hash | TokenKind::Percent)
+    )
 }
 
-// An attribute by its runs, of the tokens kept from `from` up to `to`, which are trimmed; `block` says that the entry is the block entry.
-pub fn attr_ir<'a>(
-    kinds: &'a [u8],
-    text: &'a [u8],
-    pairs: &'a [u32],
-    from: TokenPlace,
-    to: TokenPlace,
-    block: bool,
-) -> AttrIr
-    requires lent { Lent kinds.now text.now pairs.now }
-    requires from_le_to { (from.0 ≤ to.0) × (to.0 ≤ length kinds.now) }
-    ensures { IrOf (attr_ir block) (line kinds.entry text.entry pairs.entry) from.0 to.0 result }
+// Whether a positional is to be cut, of the tokens kept of some places: it is asked for, and no quotes are taken. Most are not asked to be cut, and
+// their ends are then not looked for.
+fn to_cut(places: Places<'_>, asked: bool) -> bool
+    ensures { (text pairs : List ℕ) → result ≡ (asked && not (quoted (kept (line_of places.entry.kinds.now text pairs) places.entry.from.0 places.entry.to.0))) }
 {
-    let reading = look::look(kinds, text, pairs, from, to, block);
-    match reading {
-        Reading::Shorthand => AttrIr::Shorthand(run_of(kinds, from, to)),
+    asked && !places.quoted()
+}
+
+// An attribute by its runs, of the tokens kept, which are trimmed; `block` says that the entry is the block entry.
+pub fn attr_ir(tokens: Tokens<'_>, block: bool) -> AttrIr
+    ensures { IrOf (attr_ir block) (line_in tokens.entry.line) tokens.entry.from.0 tokens.entry.to.0 result }
+{
+    let places = tokens.places();
+    match look::look(tokens, block) {
+        Reading::Shorthand => AttrIr::Shorthand(places.run_of()),
         Reading::Positional(noted) => {
-            let asked = look::both(noted, block);
+            let asked = noted && block;
             AttrIr::Positional {
-                run: unquote(kinds, from, to),
-                cut: to_cut(kinds, from, to, asked),
+                run: places.unquote(),
+                cut: to_cut(places, asked),
             }
         }
-        Reading::Named => naming::parse_key_value_attr(kinds, text, pairs, from, to),
+        Reading::Named => naming::parse_key_value_attr(tokens),
     }
 }

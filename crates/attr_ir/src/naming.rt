@@ -1,7 +1,7 @@
 // A named attribute: its name, what the name asks for, and its value.
-ghost use Rattle.std.specs.Prelude.{◌≡◌, List, ℕ, ◌+◌, ◌≤◌, ◌<◌, length};
+ghost use Rattle.std.specs.Prelude.{◌≡◌, List, ℕ};
 ghost use Rattle.token.specs.Line.{line_of};
-ghost use Rattle.token.specs.Lent.{Lent, line};
+ghost use Rattle.token.specs.Checked.{line_in};
 ghost use Rattle.runs.specs.Run.{is_whitespace, without, kept, run_of};
 ghost use Rattle.runs.specs.Names.{bytes};
 ghost use Rattle.runs.specs.Places.{Part};
@@ -9,109 +9,86 @@ ghost use Rattle.attr_ir.specs.Ir.{value, name_of, key_value_ir};
 ghost use Rattle.attr_ir.specs.Places.{InLine, IrOf};
 
 use super::{AttrIr, Name};
-use runs::names::name_is;
-use runs::{find_kind, first_kept, trim, unquote};
-use token::kind::{EQUAL_SIGNS, WHITESPACE};
+use runs::places::{Places, Tokens};
+use token::kind::TokenKind;
 use token::{Run, TokenPlace};
 
-// What the name of the tokens kept from `from` up to `to` asks for.
-fn name_of<'a>(
-    kinds: &'a [u8],
-    text: &'a [u8],
-    pairs: &'a [u32],
-    from: TokenPlace,
-    to: TokenPlace,
-) -> Name
-    requires lent { Lent kinds.now text.now pairs.now }
-    requires from_le_to { (from.0 ≤ to.0) × (to.0 ≤ length kinds.now) }
-    ensures { result ≡ name_of (bytes (without is_whitespace (kept (line kinds.entry text.entry pairs.entry) from.0 to.0))) }
+// What the name of the tokens kept asks for.
+fn name_of(tokens: Tokens<'_>) -> Name
+    ensures { result ≡ name_of (bytes (without is_whitespace (kept (line_in tokens.entry.line) tokens.entry.from.0 tokens.entry.to.0))) }
 {
-    if name_is(kinds, text, pairs, from, to, b"options") {
+    // No table of names: these are the four tests of the rule, and a loop over six pairs would say no more.
+    if tokens.name_is(b"options") || tokens.name_is(b"opts") {
         return Name::Options;
     }
-    if name_is(kinds, text, pairs, from, to, b"opts") {
-        return Name::Options;
-    }
-    if name_is(kinds, text, pairs, from, to, b"role") {
+    if tokens.name_is(b"role") {
         return Name::Role;
     }
-    if name_is(kinds, text, pairs, from, to, b"id") {
+    if tokens.name_is(b"id") {
         return Name::Id;
     }
-    if name_is(kinds, text, pairs, from, to, b"subs") {
-        return Name::Plain;
-    }
-    if name_is(kinds, text, pairs, from, to, b"cols") {
+    if tokens.name_is(b"subs") || tokens.name_is(b"cols") {
         return Name::Plain;
     }
     Name::Other
 }
 
 // The run of a value: one Whitespace dropped, unquoted.
-fn value_run(kinds: &[u8], from: TokenPlace, to: TokenPlace) -> Run
-    requires { (from.0 ≤ to.0) × (to.0 ≤ length kinds.now) }
-    ensures run { (text pairs : List ℕ) → result ≡ run_of (value (kept (line_of kinds.now text pairs) from.0 to.0)) }
-    ensures part { Part value kinds.now from.0 to.0 result }
+fn value_run(places: Places<'_>) -> Run
+    ensures run { (text pairs : List ℕ) → result ≡ run_of (value (kept (line_of places.entry.kinds.now text pairs) places.entry.from.0 places.entry.to.0)) }
+    ensures part { Part value places.entry.kinds.now places.entry.from.0 places.entry.to.0 result }
 {
-    let start = first_kept(kinds, from, to);
-    let i = start.0;
-    if to.0 <= i {
-        return unquote(kinds, start, to);
+    let start = places.first_kept();
+    if start.0 < places.to.0 && places.kinds[start.0] == TokenKind::Whitespace as u8 {
+        let rest = Places {
+            kinds: places.kinds,
+            from: TokenPlace(start.0 + 1),
+            to: places.to,
+        };
+        return rest.unquote();
     }
-    if kinds[i] == WHITESPACE {
-        return unquote(kinds, TokenPlace(i + 1), to);
-    }
-    unquote(kinds, start, to)
+    let all = Places {
+        kinds: places.kinds,
+        from: start,
+        to: places.to,
+    };
+    all.unquote()
 }
 
 // The run of a name, less Whitespace: Whitespace inside it does not change its run.
-fn name_run(kinds: &[u8], from: TokenPlace, to: TokenPlace) -> Run
-    requires { (from.0 ≤ to.0) × (to.0 ≤ length kinds.now) }
-    ensures run { (text pairs : List ℕ) → result ≡ run_of (without is_whitespace (kept (line_of kinds.now text pairs) from.0 to.0)) }
-    ensures within { InLine kinds.now from.0 to.0 result }
+fn name_run(tokens: Tokens<'_>) -> Run
+    ensures run { result ≡ run_of (without is_whitespace (kept (line_in tokens.entry.line) tokens.entry.from.0 tokens.entry.to.0)) }
+    ensures within { InLine tokens.entry.line.kinds.now tokens.entry.from.0 tokens.entry.to.0 result }
 {
-    trim(kinds, from, to)
+    tokens.places().trim()
 }
 
-// The place after `at`, or `to` where there is none.
-fn past(at: TokenPlace, to: TokenPlace) -> TokenPlace
-    requires { at.0 ≤ to.0 }
-    ensures more { at.0 < to.0 → result.0 ≡ at.0 + 1 }
-    ensures none { to.0 ≤ at.0 → result.0 ≡ to.0 }
-    ensures within { (at.0 ≤ result.0) × (result.0 ≤ to.0) }
+// A named attribute by its runs, of the tokens kept.
+pub(crate) fn parse_key_value_attr(tokens: Tokens<'_>) -> AttrIr
+    ensures { IrOf key_value_ir (line_in tokens.entry.line) tokens.entry.from.0 tokens.entry.to.0 result }
 {
-    if at.0 < to.0 {
-        return TokenPlace(at.0 + 1);
-    }
-    to
-}
-
-// A named attribute by its runs, of the tokens kept from `from` up to `to`.
-pub(crate) fn parse_key_value_attr<'a>(
-    kinds: &'a [u8],
-    text: &'a [u8],
-    pairs: &'a [u32],
-    from: TokenPlace,
-    to: TokenPlace,
-) -> AttrIr
-    requires lent { Lent kinds.now text.now pairs.now }
-    requires from_le_to { (from.0 ≤ to.0) × (to.0 ≤ length kinds.now) }
-    ensures { IrOf key_value_ir (line kinds.entry text.entry pairs.entry) from.0 to.0 result }
-{
-    let equals = find_kind(kinds, EQUAL_SIGNS, from, to);
-    let after = past(equals, to);
-    let value = value_run(kinds, after, to);
-    let asked = name_of(kinds, text, pairs, from, equals);
-    match asked {
+    let equals = tokens.places().find_kind(TokenKind::EqualSigns);
+    let before = Tokens {
+        line: tokens.line,
+        from: tokens.from,
+        to: equals,
+    };
+    let after = Places {
+        kinds: tokens.line.kinds,
+        from: TokenPlace(tokens.to.0.min(equals.0 + 1)),
+        to: tokens.to,
+    };
+    let value = value_run(after);
+    match name_of(before) {
         Name::Options => AttrIr::Options(value),
         Name::Role => AttrIr::Roles(value),
         Name::Id => AttrIr::Id(value),
         Name::Plain => AttrIr::Plain {
-            name: name_run(kinds, from, equals),
+            name: name_run(before),
             value,
         },
         Name::Other => AttrIr::Named {
-            name: name_run(kinds, from, equals),
+            name: name_run(before),
             value,
         },
     }

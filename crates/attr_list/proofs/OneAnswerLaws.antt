@@ -15,8 +15,10 @@ use Rattle.closing.specs.declared.LinkMacro.TheVariants.{AsList}
 use Rattle.closing.specs.Closing.{closing}
 use Rattle.closing.specs.Link.{link_macro}
 use Rattle.closing.proofs.ClosingLaws.{closes-closing}
-use Rattle.attr_list.specs.Entry.{Entry, Block, BlockMacro, Inline, Link, is_block, full_line}
-use Rattle.attr_list.specs.declared.Answer.TheVariants.{Read}
+use Rattle.attr_list.specs.declared.entries.Entry.{Entry}
+use Rattle.attr_list.specs.declared.entries.Entry.TheVariants.{Block, BlockMacro, Inline, Link}
+use Rattle.attr_list.specs.Entry.{is_block, full_line}
+use Rattle.attr_list.specs.Answer.{Read}
 use Rattle.list_rows.specs.ListRows.{rows_from, list_rows}
 use Rattle.attr_list.specs.Reading.{Reading, gives, Gives, list_to, link_to, read_by, unless_closed, unless_refused, reading}
 use Rattle.attr_list.specs.ReadAsList.{TakenAsList, rows_of_attributes, ReadAsList}

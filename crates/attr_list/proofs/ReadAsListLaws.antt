@@ -14,14 +14,16 @@ use Rattle.delimiters.specs.Divide as divide
 use Rattle.delimiters.specs.Delimit as delimit
 use Rattle.delimiters.proofs.CountLaws.{counts, count-first}
 use Rattle.delimiters.proofs.DivideLaws.{divided, attributes-none}
-use Rattle.closing.specs.declared.Closing.{Closing}
-use Rattle.closing.specs.declared.Closing.TheVariants.{At, Nowhere}
+use Rattle.std.specs.Prelude.{Option, Some, None}
+use Rattle.token.specs.declared.TokenPlace.{TokenPlace}
 use Rattle.closing.specs.declared.LinkMacro.{LinkMacro}
 use Rattle.closing.specs.declared.LinkMacro.TheVariants.{AsList, AsText}
 use Rattle.closing.specs.Closing.{closing}
 use Rattle.closing.specs.Link.{link_macro}
 use Rattle.closing.proofs.ClosingLaws.{Closed, closing-closes, closes-bracket}
-use Rattle.attr_list.specs.Entry.{Entry, Block, BlockMacro, Inline, Link, is_block, full_line}
+use Rattle.attr_list.specs.declared.entries.Entry.{Entry}
+use Rattle.attr_list.specs.declared.entries.Entry.TheVariants.{Block, BlockMacro, Inline, Link}
+use Rattle.attr_list.specs.Entry.{is_block, full_line}
 use Rattle.list_rows.specs.ListRows.{rows_from, list_rows}
 use Rattle.attr_list.specs.Reading.{Reading, refused, gives, answer_of, buffer_of, list_to, link_to, read_by, unless_closed, lent_refusal, unless_refused, reading}
 use Rattle.attr_list.specs.ReadAsList.{TakenAsList, ClosedAt, ReadAsList}
@@ -116,11 +118,11 @@ module _ (most : ℕ) (l : Line) (given : List ℕ) (z : lent_refusal most l (le
   abbrev Right : Entry → Reading → Type 0
   Right e r = WhenReadAsList most e l given (answer_of r) (buffer_of given r)
 
-  right-list : (e : Entry) (c : Closing) → (kind_at l.kinds 0 ≡ close_bracket → ⊥) → Closed l.kinds (full_line e) c → Right e (list_to l (is_block e) c)
-  right-list e (At end) h w =
+  right-list : (e : Entry) (c : Option TokenPlace) → (kind_at l.kinds 0 ≡ close_bracket → ⊥) → Closed l.kinds (full_line e) c → Right e (list_to l (is_block e) c)
+  right-list e (Some end) h w =
       let b = closes-bracket l.kinds some (full_line e) end.0 w in
       λ t. list_read e end.0 t (record { among = b.among; bracket = b.bracket; first = λ f. absurd (h f); rule = λ f. w }) (bracket-closes l.kinds h end.0 b)
-  right-list e Nowhere h w = tt
+  right-list e None h w = tt
 
   right-text : (b : Bool) (r : Reading) → (TakenAsList Link l → ⊥) → Right Link (cond b r (refused no_closing_bracket))
   right-text true (refused n) h = tt

@@ -4,12 +4,16 @@ use native.Mathlib.Omega.{arith}
 use mathlib.Core.Bool.{Bool, true, false, cond}
 use mathlib.Core.Path.{◌≡◌, refl, sym, ap, subst, ◌∙◌}
 use mathlib.Core.List.{List, [], ◌∷◌}
-use lib.ListN.{length, take}
+use lib.ListN.{length}
+use Rattle.std.specs.Prelude.{Option, Some, None}
 use lib.Seq.{sets}
 use borrow.Author.Tests.{eq-eqb, ne_eqb}
 use Rattle.token.specs.declared.TokenPlace.{TokenPlace}
 use Rattle.token.specs.declared.Run.{Run}
+use Rattle.refusals.specs.declared.Refusal.{Refusal}
+use Rattle.refusals.specs.Numbered.{number_of}
 use Rattle.refusals.specs.Refusals.{rows_too_short, no_closing_bracket}
+use Rattle.refusals.proofs.Laws.{number-some}
 use Rattle.token.specs.Kind.{close_bracket, kind_at}
 use Rattle.token.specs.Line.{Line, line_of, refusal, most_tokens}
 use Rattle.token.specs.Lent.{Lent}
@@ -17,14 +21,13 @@ use Rattle.token.proofs.LineLaws.{lent}
 use Rattle.runs.specs.Run.{kept, unquote, run_of}
 use Rattle.runs.specs.Places.{Part}
 use Rattle.row.specs.declared.Row.{Row}
+use Rattle.row.specs.declared.tag.Tag.TheVariants.{Positional}
 use Rattle.row.specs.Row.{width, numbers, all_numbers, one_run, positional, room_for, with_rows, Wrote, Fits}
 use Rattle.row.proofs.Laws.{wrote_one}
 use Rattle.delimiters.specs.Delimit.{dividing, parted}
 use Rattle.delimiters.specs.Divide.{Ascending}
 use Rattle.delimiters.proofs.CountLaws.{bracket-past}
 use Rattle.delimiters.proofs.DivideLaws.{dividing-ascend-to, attributes-some}
-use Rattle.closing.specs.declared.Closing.{Closing}
-use Rattle.closing.specs.declared.Closing.TheVariants.{At, Nowhere}
 use Rattle.closing.specs.declared.LinkMacro.{LinkMacro}
 use Rattle.closing.specs.declared.LinkMacro.TheVariants.{AsText}
 use Rattle.closing.specs.Link.{holds_of, link_macro}
@@ -32,9 +35,10 @@ use Rattle.closing.specs.Closing.{numbers_of, closing}
 use Rattle.closing.proofs.Laws.{same_case}
 use Rattle.closing.proofs.ClosingLaws.{IsBracket, Closed, closing-closes, closes-bracket}
 use Rattle.closing.proofs.LinkLaws.{Within, link-within, same-link}
-use Rattle.attr_list.specs.Entry.{Entry, Link}
-use Rattle.attr_list.specs.declared.Answer.{Answer}
-use Rattle.attr_list.specs.declared.Answer.TheVariants.{Refused, Read}
+use Rattle.attr_list.specs.declared.entries.Entry.{Entry}
+use Rattle.attr_list.specs.declared.entries.Entry.TheVariants.{Block, BlockMacro, Inline, Link}
+use Rattle.attr_list.specs.Entry.{is_block, full_line}
+use Rattle.attr_list.specs.Answer.{Answer, Refused, Read}
 use Rattle.list_rows.specs.ListRows.{parted_rows, list_rows, rows_from}
 use Rattle.attr_list.specs.Reading.{Reading, refused, gives, answer_of, Gives, list_to, list_of, text_to, link_to, read_by, unless_closed, lent_refusal, unless_refused, reading}
 use Rattle.attr_list.specs.Outcome.{Outcome, WhenReadAsList}
@@ -97,9 +101,26 @@ module _ (most : ℕ) (e : Entry) (l : Line) (given : List ℕ) where
   outcome-refused n is h =
       gives-outcome (Refused n) given (gives_as given (refused n) _ (Refused n) given (gives-refused given n) (read-refused most l (length given) e n is h))
 
+  -- 1 to 6 refuse the line, 7 the buffer
+  pub outcome-line : (r : Refusal) → number_of r ≡ refusal most l → Outcome most e l given (Refused (number_of r)) given
+  outcome-line r is =
+      let h : number_of r ≡ 0 → ⊥ = λ z. omega (arith, number-some r, z) in
+      outcome-refused (number_of r) (refused-line most l (length given) (number_of r) is h) h
+
+  pub outcome-room : refusal most l ≡ 0 → room_for (length l.kinds) (length given) ≡ false → Outcome most e l given (Refused rows_too_short) given
+  outcome-room z f = outcome-refused rows_too_short (refused-room most l (length given) 0 (sym z) refl f) (λ e. omega (arith, e))
+
   -- none of them does
   pub outcome-read : 0 ≡ lent_refusal most l (length given) → (a : Answer) (left : List ℕ) → Gives given (unless_closed l.kinds (read_by e l)) a left → Outcome most e l given a left
   outcome-read z a left w = gives-outcome a left (gives_as given _ _ a left w (read_taken most l (length given) e z))
+
+-- ---- an entry that is no link reads a list
+
+pub list-entry : (e : Entry) (l : Line) → (e ≡ Link → ⊥) → list_of l (full_line e) (is_block e) ≡ read_by e l
+list-entry Block l h = refl
+list-entry BlockMacro l h = refl
+list-entry Inline l h = refl
+list-entry Link l h = absurd (h refl)
 
 -- ---- a line whose first token is CloseBracket, and any other
 
@@ -116,27 +137,27 @@ open_gives kinds r given h a left w = gives_as given r (unless_closed kinds r) a
 
 -- ---- a list
 
-module _ (kinds text pairs : List ℕ) (full : Bool) (c : Closing) (told : numbers_of c ≡ numbers_of (closing full kinds)) where
+module _ (kinds text pairs : List ℕ) (full : Bool) (c : Option TokenPlace) (told : numbers_of c ≡ numbers_of (closing full kinds)) where
   is : c ≡ closing full kinds
   is = same_case c (closing full kinds) told
 
-  pub end_is : 0 < length kinds → (end : TokenPlace) → c ≡ At end → IsBracket kinds end.0
+  pub end_is : 0 < length kinds → (end : TokenPlace) → c ≡ Some end → IsBracket kinds end.0
   end_is some end e = closes-bracket kinds some full end.0 (subst (Closed kinds full) (sym is ∙ e) (closing-closes kinds some full))
 
-  pub list-nowhere : (block : Bool) (given : List ℕ) → c ≡ Nowhere → Gives given (list_of (line_of kinds text pairs) full block) (Refused no_closing_bracket) given
+  pub list-nowhere : (block : Bool) (given : List ℕ) → c ≡ None → Gives given (list_of (line_of kinds text pairs) full block) (Refused no_closing_bracket) given
   list-nowhere block given e = gives_as given (refused no_closing_bracket) _ (Refused no_closing_bracket) given (gives-refused given no_closing_bracket) (ap (list_to (line_of kinds text pairs) block) (sym e ∙ is))
 
-  module _ (some : 0 < length kinds) (end : TokenPlace) (e : c ≡ At end) (commas : List ℕ) (n : ℕ) (same : take n commas ≡ dividing kinds) where
-    pub list-commas : Ascending 0 (take n commas) end.0
+  module _ (some : 0 < length kinds) (end : TokenPlace) (e : c ≡ Some end) (cs : List ℕ) (same : cs ≡ dividing kinds) where
+    pub list-commas : Ascending 0 cs end.0
     list-commas =
-        subst (λ (cs : List ℕ). Ascending 0 cs end.0) (sym same)
+        subst (λ (ps : List ℕ). Ascending 0 ps end.0) (sym same)
         (dividing-ascend-to kinds end.0 (bracket-past kinds end.0 (end_is some end e).bracket))
 
-    pub list-gives : (kind_at kinds 0 ≡ close_bracket → ⊥) → (block : Bool) (given left : List ℕ) (r : ℕ) → Wrote given 0 (parted_rows (line_of kinds text pairs) block (take n commas) end.0) left r → Gives given (list_of (line_of kinds text pairs) full block) (Read r (end.0 + 1)) left
+    pub list-gives : (kind_at kinds 0 ≡ close_bracket → ⊥) → (block : Bool) (given left : List ℕ) (r : ℕ) → Wrote given 0 (parted_rows (line_of kinds text pairs) block cs end.0) left r → Gives given (list_of (line_of kinds text pairs) full block) (Read r (end.0 + 1)) left
     list-gives h block given left r w =
-        let parts : parted 0 (take n commas) end.0 ≡ Rattle.delimiters.specs.Delimit.attributes kinds end.0 = ap (λ (cs : List ℕ). parted 0 cs end.0) same ∙ sym (attributes-some kinds end.0 (bracket-some kinds h end.0 (end_is some end e))) in
-        let rows : parted_rows (line_of kinds text pairs) block (take n commas) end.0 ≡ list_rows (line_of kinds text pairs) block end.0 = ap (λ ss. (rows_from (line_of kinds text pairs) block false ss).rows) parts in
-        let count : r ≡ length (parted_rows (line_of kinds text pairs) block (take n commas) end.0) = omega (arith, w.count) in
+        let parts : parted 0 cs end.0 ≡ Rattle.delimiters.specs.Delimit.attributes kinds end.0 = ap (λ (ps : List ℕ). parted 0 ps end.0) same ∙ sym (attributes-some kinds end.0 (bracket-some kinds h end.0 (end_is some end e))) in
+        let rows : parted_rows (line_of kinds text pairs) block cs end.0 ≡ list_rows (line_of kinds text pairs) block end.0 = ap (λ ss. (rows_from (line_of kinds text pairs) block false ss).rows) parts in
+        let count : r ≡ length (parted_rows (line_of kinds text pairs) block cs end.0) = omega (arith, w.count) in
         gives_as given (gives (list_rows (line_of kinds text pairs) block end.0) (end.0 + 1)) _ (Read r (end.0 + 1)) left
         (record { answer = ap (λ (m : ℕ). Read m (end.0 + 1)) (count ∙ ap length rows); buffer = w.buffer ∙ ap (with_rows given 0) rows })
         (ap (list_to (line_of kinds text pairs) block) (sym e ∙ is))
@@ -144,10 +165,10 @@ module _ (kinds text pairs : List ℕ) (full : Bool) (c : Closing) (told : numbe
 -- ---- a link
 
 -- what the brackets hold is read so
-pub link-gives : (l : Line) (m known : LinkMacro) (given : List ℕ) → holds_of m ≡ holds_of (link_macro l.kinds l.pairs) → m ≡ known → (a : Answer) (left : List ℕ) → Gives given (unless_closed l.kinds (link_to l known)) a left → Gives given (unless_closed l.kinds (read_by Link l)) a left
+pub link-gives : (l : Line) (m known : LinkMacro) (given : List ℕ) → holds_of m ≡ holds_of (link_macro l.kinds l.pairs) → m ≡ known → (a : Answer) (left : List ℕ) → Gives given (link_to l known) a left → Gives given (link_to l (link_macro l.kinds l.pairs)) a left
 link-gives l m known given is told a left w =
-    gives_as given (unless_closed l.kinds (link_to l known)) (unless_closed l.kinds (read_by Link l)) a left w
-    (ap (λ (x : LinkMacro). unless_closed l.kinds (link_to l x)) (sym told ∙ same-link m (link_macro l.kinds l.pairs) is))
+    gives_as given (link_to l known) (link_to l (link_macro l.kinds l.pairs)) a left w
+    (ap (λ (x : LinkMacro). link_to l x) (sym told ∙ same-link m (link_macro l.kinds l.pairs) is))
 
 -- its text
 
@@ -157,7 +178,7 @@ text-among kinds pairs m is some end e =
     omega arith
 
 -- the row of a run of the line fits the buffer's numbers
-pub text-fits : (f : _) (kinds text pairs : List ℕ) (from to : ℕ) (r : Run) (row : Row) → Lent kinds text pairs → to ≤ length kinds → Part f kinds from to r → row ≡ one_run 2 r → Fits row
+pub text-fits : (f : _) (kinds text pairs : List ℕ) (from to : ℕ) (r : Run) (row : Row) → Lent kinds text pairs → to ≤ length kinds → Part f kinds from to r → row ≡ one_run Positional r → Fits row
 text-fits f kinds text pairs from to r row l h w e =
     subst Fits (sym e)
     (record { first_place = omega (arith, w.within, l.few); first_count = omega (arith, w.within, l.few); second_place = omega arith; second_count = omega arith })
@@ -168,9 +189,9 @@ module _ (kinds text pairs : List ℕ) (end : ℕ) (given : List ℕ) where
       gives_as given (refused no_closing_bracket) _ (Refused no_closing_bracket) given (gives-refused given no_closing_bracket)
       (sym (ap (λ (b : Bool). cond b (gives (positional (run_of (unquote (kept (line_of kinds text pairs) 0 end))) ∷ []) (end + 1)) (refused no_closing_bracket)) (ne_eqb (kind_at kinds end) close_bracket h)))
 
-  pub text-gives : kind_at kinds end ≡ close_bracket → (r : Run) (row : Row) (left : List ℕ) → row ≡ one_run 2 r → r ≡ run_of (unquote (kept (line_of kinds text pairs) 0 end)) → left ≡ sets given (width * 0) (numbers row) → Gives given (text_to (line_of kinds text pairs) end) (Read 1 (end + 1)) left
+  pub text-gives : kind_at kinds end ≡ close_bracket → (r : Run) (row : Row) (left : List ℕ) → row ≡ one_run Positional r → r ≡ run_of (unquote (kept (line_of kinds text pairs) 0 end)) → left ≡ sets given (width * 0) (numbers row) → Gives given (text_to (line_of kinds text pairs) end) (Read 1 (end + 1)) left
   text-gives h r row left e f fills =
-      let same : row ≡ positional (run_of (unquote (kept (line_of kinds text pairs) 0 end))) = e ∙ ap (one_run 2) f in
+      let same : row ≡ positional (run_of (unquote (kept (line_of kinds text pairs) 0 end))) = e ∙ ap (one_run Positional) f in
       gives_as given (gives (positional (run_of (unquote (kept (line_of kinds text pairs) 0 end))) ∷ []) (end + 1)) _ (Read 1 (end + 1)) left
       (record { answer = refl; buffer = fills ∙ ap (λ (x : Row). sets given (width * 0) (numbers x)) same ∙ (wrote_one given 0 (positional (run_of (unquote (kept (line_of kinds text pairs) 0 end))))).buffer })
       (sym (ap (λ (b : Bool). cond b (gives (positional (run_of (unquote (kept (line_of kinds text pairs) 0 end))) ∷ []) (end + 1)) (refused no_closing_bracket)) (eq-eqb (kind_at kinds end) close_bracket h)))

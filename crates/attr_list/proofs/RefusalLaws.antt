@@ -4,13 +4,14 @@ use Rattle.std.proofs.Common.{arith}
 use Rattle.refusals.specs.Refusals.{no_closing_bracket}
 use Rattle.token.specs.Kind.{close_bracket, kind_at}
 use Rattle.token.specs.Line.{Line}
-use Rattle.closing.specs.declared.Closing.{Closing}
-use Rattle.closing.specs.declared.Closing.TheVariants.{At, Nowhere}
+use Rattle.std.specs.Prelude.{Option, Some, None}
+use Rattle.token.specs.declared.TokenPlace.{TokenPlace}
 use Rattle.closing.specs.declared.LinkMacro.{LinkMacro}
 use Rattle.closing.specs.declared.LinkMacro.TheVariants.{AsList, AsText}
 use Rattle.closing.specs.Closing.{closing}
 use Rattle.closing.specs.Link.{link_macro}
-use Rattle.attr_list.specs.Entry.{Entry, Block, BlockMacro, Inline, Link}
+use Rattle.attr_list.specs.declared.entries.Entry.{Entry}
+use Rattle.attr_list.specs.declared.entries.Entry.TheVariants.{Block, BlockMacro, Inline, Link}
 use Rattle.attr_list.specs.Reading.{Reading, refused, gives, list_to, link_to, read_by, unless_closed, lent_refusal, unless_refused, reading}
 
 abbrev pub Numbered : Reading → Type 0
@@ -21,9 +22,9 @@ either : (b : Bool) (r s : Reading) → Numbered r → Numbered s → Numbered (
 either true r s v w = v
 either false r s v w = w
 
-list-numbered : (l : Line) (block : Bool) (c : Closing) → Numbered (list_to l block c)
-list-numbered l block (At end) = tt
-list-numbered l block Nowhere = omega arith
+list-numbered : (l : Line) (block : Bool) (c : Option TokenPlace) → Numbered (list_to l block c)
+list-numbered l block (Some end) = tt
+list-numbered l block None = omega arith
 
 link-numbered : (l : Line) (m : LinkMacro) → Numbered (link_to l m)
 link-numbered l AsList = list-numbered l false (closing false l.kinds)

@@ -2,8 +2,11 @@
 use Rattle.std.specs.Prelude.{ℕ, ◌-◌, Bool, cond, not, ◌&&◌, eqb, List, length}
 use Rattle.token.specs.Kind.{backslash, close_bracket, open_bracket, kind_at}
 use Rattle.token.specs.Line.{Line, most_tokens, refusal}
-use Rattle.attr_list.specs.declared.BlockLine.{BlockLine}
-use Rattle.attr_list.specs.declared.BlockLine.TheVariants.{Refused, Is}
+
+-- the number with which a line is refused, or whether it is a block attribute list
+pub data BlockLine : Type 0 where
+  Refused : (number : ℕ) → BlockLine
+  Is : Bool → BlockLine
 
 -- the kind of the token that is the nth from the end
 abbrev pub from_end : ℕ → List ℕ → ℕ

@@ -1,11 +1,7 @@
 -- Which of the four entries reads (document 01, "Lists and links").
 use Rattle.std.specs.Prelude.{Bool, true, false}
-
-pub data Entry : Type 0 where
-  Block : Entry
-  BlockMacro : Entry
-  Inline : Entry
-  Link : Entry
+use Rattle.attr_list.specs.declared.entries.Entry.{Entry}
+use Rattle.attr_list.specs.declared.entries.Entry.TheVariants.{Block, BlockMacro, Inline, Link}
 
 -- the block entry alone knows shorthand
 abbrev pub is_block : Entry → Bool

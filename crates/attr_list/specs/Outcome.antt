@@ -1,9 +1,8 @@
 -- What an entry answers and leaves: the contract of each.
 use Rattle.std.specs.Prelude.{ℕ, ◌≡◌, List, length}
 use Rattle.token.specs.Line.{Line}
-use Rattle.attr_list.specs.Entry.{Entry}
-use Rattle.attr_list.specs.declared.Answer.{Answer}
-use Rattle.attr_list.specs.declared.Answer.TheVariants.{Refused, Read}
+use Rattle.attr_list.specs.declared.entries.Entry.{Entry}
+use Rattle.attr_list.specs.Answer.{Answer, Refused, Read}
 use Rattle.attr_list.specs.Reading.{answer_of, buffer_of, reading}
 use Rattle.attr_list.specs.ReadAsList.{TakenAsList, ReadAsList}
 

@@ -12,7 +12,9 @@ use Rattle.delimiters.specs.Divide.{times, covers, Ascending, how_many, Follow, 
 use Rattle.closing.specs.declared.LinkMacro.TheVariants.{AsList}
 use Rattle.closing.specs.Closes.{ClosesList}
 use Rattle.closing.specs.Link.{link_macro}
-use Rattle.attr_list.specs.Entry.{Entry, Block, BlockMacro, Inline, Link, is_block, full_line}
+use Rattle.attr_list.specs.declared.entries.Entry.{Entry}
+use Rattle.attr_list.specs.declared.entries.Entry.TheVariants.{Block, BlockMacro, Inline, Link}
+use Rattle.attr_list.specs.Entry.{is_block, full_line}
 use Rattle.list_rows.specs.ListRows.{rows_from}
 use Rattle.attr_list.specs.Reading.{lent_refusal}
 

@@ -1,21 +1,20 @@
 -- The four readings (document 01, "Lists and links"): what each entry answers, and what the row buffer holds on return.
-use Rattle.std.specs.Prelude.{ℕ, zero, suc, ◌+◌, Bool, true, false, cond, not, List, [], ◌∷◌, ◌≡◌, eqb, length}
+use Rattle.std.specs.Prelude.{ℕ, zero, suc, ◌+◌, Bool, true, false, cond, not, List, [], ◌∷◌, ◌≡◌, eqb, length, Option, Some, None}
 use Rattle.refusals.specs.Refusals.{rows_too_short, no_closing_bracket}
 use Rattle.token.specs.Kind.{close_bracket, kind_at}
 use Rattle.token.specs.Line.{Line, check, refusal}
 use Rattle.runs.specs.Run.{kept, unquote, run_of}
 use Rattle.row.specs.declared.Row.{Row}
 use Rattle.row.specs.Row.{positional, with_rows, room_for}
-use Rattle.closing.specs.declared.Closing.{Closing}
-use Rattle.closing.specs.declared.Closing.TheVariants.{At, Nowhere}
+use Rattle.token.specs.declared.TokenPlace.{TokenPlace}
 use Rattle.closing.specs.declared.LinkMacro.{LinkMacro}
 use Rattle.closing.specs.declared.LinkMacro.TheVariants.{AsList, AsText}
 use Rattle.closing.specs.Closing.{closing}
 use Rattle.closing.specs.Link.{link_macro}
 use Rattle.list_rows.specs.ListRows.{list_rows}
-use Rattle.attr_list.specs.Entry.{Entry, Block, BlockMacro, Inline, Link}
-use Rattle.attr_list.specs.declared.Answer.{Answer}
-use Rattle.attr_list.specs.declared.Answer.TheVariants.{Refused, Read}
+use Rattle.attr_list.specs.declared.entries.Entry.{Entry}
+use Rattle.attr_list.specs.declared.entries.Entry.TheVariants.{Block, BlockMacro, Inline, Link}
+use Rattle.attr_list.specs.Answer.{Answer, Refused, Read}
 
 -- ---- what a reading gives
 
@@ -55,9 +54,9 @@ consumed_of (Read rows consumed) = consumed
 -- ---- a line that 1 to 7 do not refuse, and whose first token is not CloseBracket
 
 -- "none is 8"; else the list's rows, and all tokens through the closing bracket are consumed
-abbrev pub list_to : Line → (block : Bool) → Closing → Reading
-list_to l block Nowhere = refused no_closing_bracket
-list_to l block (At end) = gives (list_rows l block end.0) (end.0 + 1)
+abbrev pub list_to : Line → (block : Bool) → Option TokenPlace → Reading
+list_to l block None = refused no_closing_bracket
+list_to l block (Some end) = gives (list_rows l block end.0) (end.0 + 1)
 
 -- a list; `full` says that it is the rest of a full line, `block` that the entry is the block entry
 abbrev pub list_of : Line → (full block : Bool) → Reading

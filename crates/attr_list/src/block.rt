@@ -2,7 +2,7 @@
 ghost use Rattle.std.specs.Prelude.{◌≡◌};
 ghost use Rattle.attr_list.specs.Block.{is_block_attr_list};
 
-use token::kind::{BACKSLASH, CLOSE_BRACKET, OPEN_BRACKET};
+use token::kind::TokenKind;
 
 // Whether the tokens are a block attribute list.
 pub(crate) fn bracketed(kinds: &[u8]) -> bool
@@ -12,14 +12,14 @@ pub(crate) fn bracketed(kinds: &[u8]) -> bool
     if tokens < 2 {
         return false;
     }
-    if kinds[0] != OPEN_BRACKET {
+    if kinds[0] != TokenKind::OpenBracket as u8 {
         return false;
     }
-    if kinds[tokens - 1] != CLOSE_BRACKET {
+    if kinds[tokens - 1] != TokenKind::CloseBracket as u8 {
         return false;
     }
-    if kinds[tokens - 2] == BACKSLASH {
+    if kinds[tokens - 2] == TokenKind::Backslash as u8 {
         return false;
     }
-    kinds[1] != OPEN_BRACKET
+    kinds[1] != TokenKind::OpenBracket as u8
 }

@@ -6,102 +6,65 @@
 ghost use Rattle.std.specs.Prelude.{◌≡◌};
 ghost use Rattle.token.specs.Lent.{line};
 ghost use Rattle.token.specs.Line.{most_tokens};
-ghost use Rattle.attr_list.specs.Entry.{Block, BlockMacro, Inline, Link};
+ghost use Rattle.attr_list.specs.Told.{told, told_line};
 ghost use Rattle.attr_list.specs.Outcome.{Outcome};
 ghost use Rattle.attr_list.specs.Block.{block_line};
 
 use block::bracketed;
-use read::{lent_refusal, read_link, read_list};
-use token::line::{MOST_TOKENS, line_refusal};
+use brackets::{read_link, read_list};
+use entries::Entry;
+use refusals::Refusal;
+use row::has_room;
+use token::kind::TokenKind;
+use token::lent::Line;
 
 mod block;
-mod read;
+mod brackets;
+pub mod entries;
 
-// What an entry answers: the number with which a call is refused, or how many rows are written and how many tokens are consumed.
-#[derive(Clone, Copy)]
-pub enum Answer {
-    Refused(usize),
-    Read { rows: usize, consumed: usize },
-}
-
-// Whether a line is a block attribute list, or the number with which it is refused.
-#[derive(Clone, Copy)]
-pub enum BlockLine {
-    Refused(usize),
-    Is(bool),
+// What is told of a line that is read: how many rows are written and how many tokens are consumed.
+#[derive(Clone, Copy, Debug, PartialEq, Eq)]
+pub struct Read {
+    pub rows: usize,
+    pub consumed: usize,
 }
 
 // Whether a line is a block attribute list; here its text begins with the opening bracket.
-pub fn is_block_attr_list<'a>(kinds: &'a [u8], text: &'a [u8], pairs: &'a [u32]) -> BlockLine
-    ensures { result ≡ block_line (line kinds.entry text.entry pairs.entry) }
+pub fn is_block_attr_list<'a>(
+    kinds: &'a [u8],
+    text: &'a [u8],
+    pairs: &'a [u32],
+) -> Result<bool, Refusal>
+    ensures { told_line result ≡ block_line (line kinds.entry text.entry pairs.entry) }
 {
-    let refused = line_refusal(kinds, text, pairs, MOST_TOKENS);
-    if refused != 0 {
-        return BlockLine::Refused(refused);
-    }
-    BlockLine::Is(bracketed(kinds))
+    let taken = Line::new(kinds, text, pairs)?;
+    Ok(bracketed(taken.kinds))
 }
 
-// The attribute list of a block, which is the rest of its line.
-pub fn parse_block_attr_list<'a, 'b>(
+// Reads a line by an entry: the attribute list of a block or a block macro, which is the rest of its line; of an inline macro, which the next bracket
+// closes that is not escaped; or what a link macro's brackets hold, an attribute list, read as an inline macro's, or text. Nothing is written before every
+// refusal has been ruled out.
+pub fn parse_attr_list<'a, 'b>(
+    entry: Entry,
     kinds: &'a [u8],
     text: &'a [u8],
     pairs: &'a [u32],
     rows: &'b mut [u32],
-) -> Answer
-    ensures { Outcome most_tokens Block (line kinds.entry text.entry pairs.entry) rows.old result rows.new }
+) -> Result<Read, Refusal>
+    ensures { Outcome most_tokens entry (line kinds.entry text.entry pairs.entry) rows.old (told result) rows.new }
 {
-    let refused = lent_refusal(kinds, text, pairs, rows.len(), MOST_TOKENS);
-    if refused != 0 {
-        return Answer::Refused(refused);
+    let line = Line::new(kinds, text, pairs)?;
+    if !has_room(rows.len(), kinds.len()) {
+        return Err(Refusal::RowsTooShort);
     }
-    read_list(kinds, text, pairs, rows, true, true)
-}
-
-// The attribute list of a block macro, which is the rest of its line; without shorthand.
-pub fn parse_block_macro_attr_list<'a, 'b>(
-    kinds: &'a [u8],
-    text: &'a [u8],
-    pairs: &'a [u32],
-    rows: &'b mut [u32],
-) -> Answer
-    ensures { Outcome most_tokens BlockMacro (line kinds.entry text.entry pairs.entry) rows.old result rows.new }
-{
-    let refused = lent_refusal(kinds, text, pairs, rows.len(), MOST_TOKENS);
-    if refused != 0 {
-        return Answer::Refused(refused);
+    if kinds[0] == TokenKind::CloseBracket as u8 {
+        return Ok(Read {
+            rows: 0,
+            consumed: 1,
+        });
     }
-    read_list(kinds, text, pairs, rows, true, false)
-}
-
-// The attribute list of an inline macro, which the next bracket closes that is not escaped; without shorthand.
-pub fn parse_inline_macro_attr_list<'a, 'b>(
-    kinds: &'a [u8],
-    text: &'a [u8],
-    pairs: &'a [u32],
-    rows: &'b mut [u32],
-) -> Answer
-    ensures { Outcome most_tokens Inline (line kinds.entry text.entry pairs.entry) rows.old result rows.new }
-{
-    let refused = lent_refusal(kinds, text, pairs, rows.len(), MOST_TOKENS);
-    if refused != 0 {
-        return Answer::Refused(refused);
+    match entry {
+        Entry::Link => read_link(line, rows),
+        _ => read_list(line, entry, rows),
     }
-    read_list(kinds, text, pairs, rows, false, false)
-}
-
-// What a link macro's brackets hold: an attribute list, read as an inline macro's, or text.
-pub fn parse_link_macro_attr_list<'a, 'b>(
-    kinds: &'a [u8],
-    text: &'a [u8],
-    pairs: &'a [u32],
-    rows: &'b mut [u32],
-) -> Answer
-    ensures { Outcome most_tokens Link (line kinds.entry text.entry pairs.entry) rows.old result rows.new }
-{
-    let refused = lent_refusal(kinds, text, pairs, rows.len(), MOST_TOKENS);
-    if refused != 0 {
-        return Answer::Refused(refused);
-    }
-    read_link(kinds, text, pairs, rows)
 }

@@ -12,7 +12,7 @@ use Rattle.runs.proofs.KeptLaws.{onward-later, unquote-plain}
 use Rattle.row.specs.Row.{positional}
 use Rattle.attr_ir.specs.declared.Reading.{Reading}
 use Rattle.attr_ir.specs.declared.Reading.TheVariants.{Shorthand, Positional, Named}
-use Rattle.attr_ir.specs.declared.Sight.TheVariants.{Is, On}
+use Rattle.std.specs.declared.ops.ControlFlow.TheVariants.{Break, Continue}
 use Rattle.attr_ir.specs.declared.Name.{Name}
 use Rattle.attr_ir.specs.declared.Name.TheVariants as asks
 use Rattle.attr_ir.specs.Look.{is_symbol, is_quote, next_equals, symbol_sight, sight, decided, look}
@@ -97,7 +97,7 @@ plain-token : (block first noted n : Bool) (t : Token) (ts : List Token) (k : Bo
 unfolding sight
 plain-token block first noted n t ts k e h f =
     go (is_quote t) (is_whitespace t) (next_equals ts) (is_equals t) first (of_one t) (subst (λ (b : Bool). decided (cond (b && of_one t) (symbol_sight (block && first) ts)
-    (cond (is_quote t) (Is (Positional noted)) (cond (is_whitespace t) (cond (next_equals ts) (On noted) (Is (Positional noted))) (cond (is_equals t) (cond first (Is (Positional noted)) (cond (of_one t) (Is Named) (On noted))) (On noted))))) k ≡ Positional n) e f)
+    (cond (is_quote t) (Break (Positional noted)) (cond (is_whitespace t) (cond (next_equals ts) (Continue noted) (Break (Positional noted))) (cond (is_equals t) (cond first (Break (Positional noted)) (cond (of_one t) (Break Named) (Continue noted))) (Continue noted))))) k ≡ Positional n) e f)
   where
     same : Positional noted ≡ Positional n → n ≡ noted
     same e = cc
@@ -105,7 +105,7 @@ plain-token block first noted n t ts k e h f =
     never : {A : Type 0} → Named ≡ Positional n → A
     never e = absurd (let z : ◌≡◌ {A = ℕ} 0 1 = cc in omega arith)
 
-    go : (q w x z g o : Bool) → decided (cond q (Is (Positional noted)) (cond w (cond x (On noted) (Is (Positional noted))) (cond z (cond g (Is (Positional noted)) (cond o (Is Named) (On noted))) (On noted)))) k ≡ Positional n → n ≡ noted
+    go : (q w x z g o : Bool) → decided (cond q (Break (Positional noted)) (cond w (cond x (Continue noted) (Break (Positional noted))) (cond z (cond g (Break (Positional noted)) (cond o (Break Named) (Continue noted))) (Continue noted)))) k ≡ Positional n → n ≡ noted
     go true w x z g o f = same f
     go false true true z g o f = h noted f
     go false true false z g o f = same f

@@ -3,3 +3,4 @@ pub mod Examples
 pub mod SymbolKinds
 pub mod Outcomes
 pub mod Whole
+pub mod Runs

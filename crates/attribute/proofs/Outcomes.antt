@@ -12,6 +12,7 @@ use Rattle.token.specs.declared.Run.{Run}
 use Rattle.token.specs.Line.{Line, Token}
 use Rattle.runs.specs.Run.{is_comma, is_whitespace, run_of, in_run}
 use Rattle.row.specs.declared.Row.{Row}
+use Rattle.row.specs.declared.tag.Tag.TheVariants as tag
 use Rattle.row.specs.Row.{one_run, named, plain, ident, role, option, diagnostic}
 use Rattle.attr_ir.specs.declared.AttrIr.{AttrIr}
 use Rattle.attr_ir.specs.declared.AttrIr.TheVariants as ir
@@ -49,26 +50,9 @@ module _ (kinds : List ℕ) (a b : ℕ) where
   most-few (ir.Id r) w = omega arith
   most-few (ir.Shorthand r) w = omega (arith, w.few)
 
--- ---- what is not to be cut
-
--- the tag of a positional is the first
-pub not_first : (n : ℕ) → OneOf (1 ∷ 2 ∷ 3 ∷ 4 ∷ 5 ∷ 6 ∷ []) n → n ≡ 0 → ⊥
-not_first n k z =
-    ⊎_elim (λ e. omega (arith, e, z)) (⊎_elim (λ e. omega (arith, e, z)) (⊎_elim (λ e. omega (arith, e, z)) (⊎_elim (λ e. omega (arith, e, z)) (⊎_elim (λ e. omega (arith, e, z)) (λ e. omega (arith, e, z)))))) k
-
-pub uncut-not : (i : AttrIr) (run : Run) (cut : Bool) → i ≡ ir.Positional run cut → cut ≡ false → (r : Run) → i ≡ ir.Positional r true → ⊥
-uncut-not i run cut e f r g =
-    let x : ir.Positional run false ≡ ir.Positional r true = ap (ir.Positional run) (sym f) ∙ sym e ∙ g in
-    let z : ◌≡◌ {A = ℕ} 0 1 = cc in
-    omega arith
-
 -- ---- what each case writes
 
 module _ (l : Line) (i : AttrIr) (u : Uncut l i) where
-  -- the runs of the case j
-  pub within-as : (j : AttrIr) → i ≡ j → Bounded l.kinds 0 (length l.kinds) j
-  within-as j e = subst (λ (x : AttrIr). Bounded l.kinds 0 (length l.kinds) x) e u.within
-
   runs_as : (j : AttrIr) → i ≡ j → j ≡ runs_of (tokens_of l j)
   runs_as j e = sym e ∙ u.runs ∙ ap (λ (x : AttrIr). runs_of (tokens_of l x)) e
 
@@ -81,13 +65,13 @@ module _ (l : Line) (i : AttrIr) (u : Uncut l i) where
     one : (row : Row) (id : Bool) → WroteId before at (one_row id row) after r → Outcome (one_row id row) 1 before at r after
     one row id w = told before at (one_row id row) (one_row id row) after r refl 1 w (omega (arith, w.wrote.count))
 
-    pub put-positional : (run : Run) (cut : Bool) → i ≡ ir.Positional run cut → (row : Row) → row ≡ one_run 2 run → WroteId before at (one_row has row) after r → Put l i has before at r after
+    pub put-positional : (run : Run) (cut : Bool) → i ≡ ir.Positional run cut → (row : Row) → row ≡ one_run tag.Positional run → WroteId before at (one_row has row) after r → Put l i has before at r after
     unfolding ir_read
     put-positional run true e row f w = absurd (u.whole run e)
     put-positional run false e row f w =
         let x : ir.Positional run false ≡ ir.Positional (run_of (in_run l run)) false = runs_as (ir.Positional run false) e in
         let same : run ≡ run_of (in_run l run) = cc in
-        put_as (ir.Positional run false) e (one_row has row) (λ again. ap (one_row has) (f ∙ ap (one_run 2) same)) (one row has w)
+        put_as (ir.Positional run false) e (one_row has row) (λ again. ap (one_row has) (f ∙ ap (one_run tag.Positional) same)) (one row has w)
 
     pub put-named : (n v : Run) → i ≡ ir.Named n v → WroteId before at (one_row has (named n v)) after r → Put l i has before at r after
     unfolding ir_read
@@ -125,3 +109,8 @@ module _ (l : Line) (i : AttrIr) (u : Uncut l i) where
     pub put-shorthand : (run : Run) → i ≡ ir.Shorthand run → Outcome (in_shorthand has (in_run l run)) run.count before at r after → Put l i has before at r after
     unfolding ir_read
     put-shorthand run e w = put_as (ir.Shorthand run) e _ (λ again. refl) w
+
+-- none of the cases behind a positional is the first
+pub not_first : (n : ℕ) → OneOf (1 ∷ 2 ∷ 3 ∷ 4 ∷ 5 ∷ 6 ∷ []) n → n ≡ 0 → ⊥
+not_first n k z =
+    ⊎_elim (λ e. omega (arith, e, z)) (⊎_elim (λ e. omega (arith, e, z)) (⊎_elim (λ e. omega (arith, e, z)) (⊎_elim (λ e. omega (arith, e, z)) (⊎_elim (λ e. omega (arith, e, z)) (λ e. omega (arith, e, z)))))) k

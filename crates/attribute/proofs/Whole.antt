@@ -11,25 +11,24 @@ use Rattle.token.specs.Line.{Line, Token, token_at}
 use Rattle.runs.specs.Run.{kept, is_dots, is_hash, is_percent, is_whitespace, is_equals, of_one, up_to, onward, trim, run_of, in_run}
 use Rattle.runs.specs.Places.{Ends, Part, FoundIn, FoundAt}
 use Rattle.runs.proofs.KeptLaws.{place_is, kept-none, kept-first}
-use Rattle.row.specs.Row.{empty_positional, positional, diagnostic, with_rows}
+use Rattle.row.specs.Row.{empty_positional, positional, diagnostic}
 use Rattle.row.proofs.Laws.{Writes, writes_start, writes-part}
 use Rattle.attr_ir.specs.declared.AttrIr.{AttrIr}
 use Rattle.attr_ir.specs.declared.AttrIr.TheVariants as ir
 use Rattle.attr_ir.specs.declared.Reading.{Reading}
 use Rattle.attr_ir.specs.declared.Reading.TheVariants.{Shorthand, Positional, Named}
-use Rattle.attr_ir.specs.declared.Sight.{Sight}
-use Rattle.attr_ir.specs.declared.Sight.TheVariants.{Is, On}
+use Rattle.std.specs.declared.ops.ControlFlow.TheVariants.{Break, Continue}
 use Rattle.attr_ir.specs.declared.Name.{Name}
 use Rattle.attr_ir.specs.declared.Name.TheVariants as asks
-use Rattle.attr_ir.specs.Look.{is_symbol, is_quote, next_space, next_equals, symbol_sight, sight, decided, look}
+use Rattle.attr_ir.specs.Look.{Sight, is_symbol, is_quote, next_space, next_equals, symbol_sight, sight, decided, look}
 use Rattle.attr_ir.specs.Ir.{name_tokens, value_tokens, name_of, named_ir, key_value_ir, ir_as, attr_ir, runs_of, tokens_of}
 use Rattle.attr_ir.specs.Ir as is
-use Rattle.attr_ir.specs.Places.{InLine, Bounded}
+use Rattle.attr_ir.specs.Places.{Bounded}
 use Rattle.put_rows.specs.declared.Written.{Written}
 use Rattle.put_rows.specs.Rows.{Read, one_row, row_first, is_stop, run_rows}
 use Rattle.attribute.specs.Attribute.{cut_read, ir_read, reading, attribute}
 use Rattle.attribute.proofs.Laws.{again, cut-has-symbol}
-use Rattle.put_rows.specs.Written.{StopFirst, Outcome}
+use Rattle.put_rows.specs.Written.{StopFirst, WroteId, Outcome}
 use Rattle.attribute.specs.Outcome.{Uncut}
 use Rattle.attribute.proofs.Outcomes.{bounded-in}
 
@@ -41,16 +40,16 @@ is_short (Positional n) = false
 is_short Named = false
 
 sight_short : Sight → Bool
-sight_short (Is r) = is_short r
-sight_short (On n) = false
+sight_short (Break r) = is_short r
+sight_short (Continue n) = false
 
 decided-not : (s : Sight) (k : Bool → Reading) → sight_short s ≡ false → ((n : Bool) → is_short (k n) ≡ false) → is_short (decided s k) ≡ false
 unfolding sight_short
-decided-not (Is r) k e f = e
-decided-not (On n) k e f = f n
+decided-not (Break r) k e f = e
+decided-not (Continue n) k e f = f n
 
 -- the ways a token decides that is no one-byte symbol, or not the first
-not_short : (first noted y a q w x z o : Bool) → sight_short (cond a (On y) (cond q (Is (Positional noted)) (cond w (cond x (On noted) (Is (Positional noted))) (cond z (cond first (Is (Positional noted)) (cond o (Is Named) (On noted))) (On noted))))) ≡ false
+not_short : (first noted y a q w x z o : Bool) → sight_short (cond a (Continue y) (cond q (Break (Positional noted)) (cond w (cond x (Continue noted) (Break (Positional noted))) (cond z (cond first (Break (Positional noted)) (cond o (Break Named) (Continue noted))) (Continue noted))))) ≡ false
 unfolding sight_short is_short
 not_short first noted y true q w x z o = refl
 not_short first noted y false true w x z o = refl
@@ -213,20 +212,17 @@ module _ (l : Line) (from to : ℕ) (block has : Bool) (m : ℕ) (w : FoundAt is
       sym (in_parts ∙ at_once (attribute block has) has (kept l from m) (kept l m to) (token_at l m) (kept l (m + 1) to) (kept-none l from m k) first ∙ ap (λ (p : ℕ). one_row has (diagnostic p 2)) (place_is l m))
 
   -- the row of what stands before the symbol, then the rows of the tail
-  pub cut_later : from < m → (get_or l.kinds from 0 ≡ attr_ref → ⊥) → (before : List ℕ) (at : ℕ) (now : List ℕ) → now ≡ with_rows before at (run_rows l from m) → (after : List ℕ) (r : Written) (n most : ℕ)
-      → Outcome (attribute block has (kept l m to)) n now (at + 1) r after → n + 1 ≤ most → Outcome given most before at r after
-  cut_later k e before at now g after r n most v few =
+  pub cut_later : from < m → (get_or l.kinds from 0 ≡ attr_ref → ⊥) → (before : List ℕ) (at : ℕ) (now : List ℕ) (p : Written) → WroteId before at (record { rows = run_rows l from m; has_id = has }) now p → (after : List ℕ) (r : Written) (n most : ℕ)
+      → Outcome (attribute block p.id (kept l m to)) n now p.rows r after → n + 1 ≤ most → Outcome given most before at r after
+  cut_later k e before at now p g after r n most u few =
+      let v = subst (λ (x : Bool). Outcome (attribute block x (kept l m to)) n now p.rows r after) g.id u in
       let D = attribute block has (kept l m to) in
       let row = positional (run_of (kept l from m)) in
       let eq : given ≡ row_first row D = in_parts ∙ later-on (attribute block has) has (kept l from m) (kept l m to) (token_at l from) (kept l (from + 1) m) (kept-first l from m k e) in
-      let put : Writes before at (row ∷ D.rows) now (at + 1) D.rows = writes-part before at (row ∷ D.rows) before at (row ∷ []) D.rows now (at + 1) (writes_start before at (row ∷ D.rows)) (record { count = omega arith; buffer = g }) in
+      let put : Writes before at (row ∷ D.rows) now p.rows D.rows = writes-part before at (row ∷ D.rows) before at (row ∷ []) D.rows now p.rows (writes_start before at (row ∷ D.rows)) g.wrote in
       rw eq
       (record {
         answer = v.answer ∙ ap (λ (x : ℕ). record { rows = x; id = D.has_id }) put.count;
         buffer = v.buffer ∙ put.buffer;
-        few = omega (arith, v.few, few);
+        few = omega (arith, v.few, few, g.wrote.count);
       })
-
--- a run of a line stands in the whole line
-pub in-own : (kinds : List ℕ) (a b : ℕ) (r : Run) → InLine kinds a b r → b ≤ length kinds → InLine kinds r.place.0 (length kinds) r
-in-own kinds a b r w h = record { within = omega (arith, w.within); few = omega (arith, w.within); ends = w.ends }

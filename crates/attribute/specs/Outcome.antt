@@ -1,8 +1,8 @@
 -- The outcome of reading an attribute, and what the calls for it ask for.
-use Rattle.std.specs.Prelude.{ℕ, zero, suc, ◌+◌, ◌-◌, ◌≡◌, Bool, true, List, length}
+use Rattle.std.specs.Prelude.{ℕ, zero, suc, ◌+◌, ◌-◌, ◌≡◌, Bool, true, List, length, Option, Some, None}
 use Rattle.token.specs.declared.Run.{Run}
 use Rattle.token.specs.Line.{Line, Token}
-use Rattle.runs.specs.Run.{kept, in_run, up_to, onward}
+use Rattle.runs.specs.Run.{kept, up_to, onward}
 use Rattle.put_rows.specs.declared.Written.{Written}
 use Rattle.put_rows.specs.Rows.{Read}
 use Rattle.put_rows.specs.Written.{StopFirst, Outcome}
@@ -19,9 +19,14 @@ use Rattle.attribute.specs.Attribute.{cut_read, ir_read, attribute}
 abbrev pub Attributed : (l : Line) (from to : ℕ) (block has : Bool) (before : List ℕ) (at : ℕ) (r : Written) (after : List ℕ) → Type 0
 Attributed l from to block has = Outcome (attribute block has (kept l from to)) (to - from + 1)
 
--- of `cut_positional`: the run of a positional, cut before its first Dots, Hash or Percent
-abbrev pub Cut : (l : Line) (run : Run) (block has : Bool) (before : List ℕ) (at : ℕ) (r : Written) (after : List ℕ) → Type 0
-Cut l run block has = Outcome (cut_read (attribute block has) has (up_to is_symbol (in_run l run)) (onward is_symbol (in_run l run))) (run.count + 1)
+-- of `run_to_cut`: the run of a positional that is to be cut, or nothing where there is none
+abbrev pub ToCut : AttrIr → Option Run → Type 0
+ToCut i (Some run) = i ≡ Positional run true
+ToCut i None = (run : Run) → i ≡ Positional run true → ⊥
+
+-- of `cut_positional`: the positional from..to of a line, cut before its first Dots, Hash or Percent
+abbrev pub Cut : (l : Line) (from to : ℕ) (block has : Bool) (before : List ℕ) (at : ℕ) (r : Written) (after : List ℕ) → Type 0
+Cut l from to block has = Outcome (cut_read (attribute block has) has (up_to is_symbol (kept l from to)) (onward is_symbol (kept l from to))) (to - from + 1)
 
 -- ---- an attribute that is not cut, by its runs
 

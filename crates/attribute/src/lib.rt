@@ -1,81 +1,87 @@
 // One attribute: its rows.
 #![tactic(auto)]
 
-ghost use Rattle.std.specs.Prelude.{◌+◌, ◌*◌, ◌-◌, ◌≤◌, ◌<◌, length};
-ghost use Rattle.token.specs.Lent.{Lent, line};
+ghost use Rattle.std.specs.Prelude.{◌≡◌, ◌+◌, ◌*◌, ◌-◌, ◌≤◌, ◌<◌, length, get_or};
+ghost use Rattle.token.specs.Kind.{attr_ref};
+ghost use Rattle.token.specs.Checked.{line_in};
 ghost use Rattle.row.specs.Row.{width};
-ghost use Rattle.attr_ir.specs.Places.{InLine};
-ghost use Rattle.attribute.specs.Outcome.{Attributed, Cut};
+ghost use Rattle.attribute.specs.Outcome.{Attributed, ToCut, Cut};
 
 use attr_ir::{AttrIr, attr_ir};
 use put_rows::Written;
-use put_rows::one_row::{put_diagnostic, put_empty, put_positional};
-use runs::trim;
+use row::diagnostic::Diagnostic;
+use runs::places::{Places, Tokens};
 use symbols::find_symbol;
+use token::lent::Line;
 use token::{Run, TokenPlace};
 use uncut::put_ir;
 
 mod symbols;
 mod uncut;
 
-// Reads the attribute from `from` up to `to`, and writes its rows from row `at` on. `block` says that the entry is the block entry, `has` that the
-// list already has an id.
-#[cycle(cut_positional_parse_attr)]
-pub fn parse_attr<'a, 'b>(
-    kinds: &'a [u8],
-    text: &'a [u8],
-    pairs: &'a [u32],
-    from: TokenPlace,
-    to: TokenPlace,
-    block: bool,
-    has: bool,
-    rows: &'b mut [u32],
-    at: usize,
-) -> Written
-    requires lent { Lent kinds.now text.now pairs.now }
-    requires from_le_to { (from.0 ≤ to.0) × (to.0 ≤ length kinds.now) × (width * (at + (to.0 - from.0) + 1) ≤ length rows.old) }
-    ensures { Attributed (line kinds.entry text.entry pairs.entry) from.0 to.0 block has rows.old at result rows.new }
+// The tokens of a run.
+pub(crate) fn in_run<'a>(line: Line<'a>, run: Run) -> Tokens<'a>
+    requires { run.place.0 + run.count ≤ length line.kinds.now }
+    ensures line { result.line ≡ line.entry }
+    ensures from { result.from ≡ run.place }
+    ensures to { result.to.0 ≡ run.place.0 + run.count }
 {
-    let trimmed = trim(kinds, from, to);
-    let count = trimmed.count;
-    if count == 0 {
-        return put_empty(rows, at, has);
+    Tokens {
+        line,
+        from: run.place,
+        to: TokenPlace(run.place.0 + run.count),
     }
-    let start = trimmed.place;
-    let end = TokenPlace(start.0 + count);
-    let ir = attr_ir(kinds, text, pairs, start, end, block);
-    let AttrIr::Positional { run, cut } = ir else {
-        return put_ir(kinds, text, pairs, ir, has, rows, at);
-    };
-    if cut {
-        return cut_positional(kinds, text, pairs, run, block, has, rows, at);
+}
+
+// The run of a positional that is to be cut.
+fn run_to_cut(ir: AttrIr) -> Option<Run>
+    ensures { ToCut ir result }
+{
+    match ir {
+        AttrIr::Positional { run, cut } => cut.then_some(run),
+        _ => None,
     }
-    put_ir(kinds, text, pairs, ir, has, rows, at)
+}
+
+// Reads an attribute, and writes its rows past those that are written. `block` says that the entry is the block entry.
+#[cycle(cut_positional_parse_attr)]
+pub fn parse_attr(tokens: Tokens<'_>, block: bool, rows: &mut [u32], written: Written) -> Written
+    requires { width * (written.rows + (tokens.to.0 - tokens.from.0) + 1) ≤ length rows.old }
+    ensures { Attributed (line_in tokens.entry.line) tokens.entry.from.0 tokens.entry.to.0 block written.id rows.old written.rows result rows.new }
+{
+    let trimmed = tokens.places().trim();
+    if trimmed.count == 0 {
+        return written.put_empty(rows);
+    }
+    let ir = attr_ir(in_run(tokens.line, trimmed), block);
+    match run_to_cut(ir) {
+        Some(run) => cut_positional(in_run(tokens.line, run), block, rows, written),
+        None => put_ir(tokens.line, ir, rows, written),
+    }
 }
 
 // A positional cut before its first Dots, Hash or Percent: the row of what stands before it, then the rows of the tail, read as an attribute.
 #[cycle(cut_positional_parse_attr)]
-fn cut_positional<'a, 'b>(
-    kinds: &'a [u8],
-    text: &'a [u8],
-    pairs: &'a [u32],
-    run: Run,
-    block: bool,
-    has: bool,
-    rows: &'b mut [u32],
-    at: usize,
-) -> Written
-    requires lent { Lent kinds.now text.now pairs.now }
-    requires count_nonzero { (0 < run.count) × (width * (at + run.count + 1) ≤ length rows.old) }
-    requires in_line { InLine kinds.now run.place.0 (length kinds.now) run }
-    ensures { Cut (line kinds.entry text.entry pairs.entry) run block has rows.old at result rows.new }
+fn cut_positional(tokens: Tokens<'_>, block: bool, rows: &mut [u32], written: Written) -> Written
+    requires some { tokens.from.0 < tokens.to.0 }
+    requires first { get_or tokens.line.kinds.now tokens.from.0 0 ≡ attr_ref → ⊥ }
+    requires room { width * (written.rows + (tokens.to.0 - tokens.from.0) + 1) ≤ length rows.old }
+    ensures { Cut (line_in tokens.entry.line) tokens.entry.from.0 tokens.entry.to.0 block written.id rows.old written.rows result rows.new }
 {
-    let from = run.place;
-    let to = TokenPlace(from.0 + run.count);
-    let symbol = find_symbol(kinds, from, to);
-    if symbol.0 <= from.0 {
-        return put_diagnostic(rows, at, symbol, 2, has);
+    let symbol = find_symbol(tokens.places());
+    if symbol.0 <= tokens.from.0 {
+        return written.put_diagnostic(rows, symbol, Diagnostic::InvalidAttrList);
     }
-    put_positional(kinds, from, symbol, rows, at);
-    parse_attr(kinds, text, pairs, symbol, to, block, has, rows, at + 1)
+    let before = Places {
+        kinds: tokens.line.kinds,
+        from: tokens.from,
+        to: symbol,
+    };
+    let tail = Tokens {
+        line: tokens.line,
+        from: symbol,
+        to: tokens.to,
+    };
+    let put = written.put_positional(rows, before);
+    parse_attr(tail, block, rows, put)
 }

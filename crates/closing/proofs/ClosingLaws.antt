@@ -1,6 +1,7 @@
 -- Laws of the closing bracket after a dividing comma: where the last attribute begins, and that the bracket is one of the line.
-use Rattle.std.specs.Prelude.{ℕ, suc, ◌+◌, ◌-◌, ◌≤◌, ◌<◌, Bool, true, false, ◌≡◌, refl, List, [], ◌∷◌, length, get_or}
+use Rattle.std.specs.Prelude.{Option, None, Some, ℕ, suc, ◌+◌, ◌-◌, ◌≤◌, ◌<◌, Bool, true, false, ◌≡◌, refl, List, [], ◌∷◌, length, get_or, slice_get}
 use Rattle.std.proofs.Common.{arith, subst, ◌∙◌, get_or-take, length-take-le}
+use Rattle.std.proofs.lemmas.Option.{slice_get-get_or}
 use Rattle.std.proofs.Math.Path.{sym, ap}
 use Rattle.std.proofs.Math.ListN.{take}
 use Rattle.token.specs.Kind.{close_bracket, kind_at}
@@ -9,8 +10,7 @@ use Rattle.delimiters.specs.Delimit.{dividing}
 use Rattle.delimiters.specs.Divide.{Ascending}
 use Rattle.delimiters.proofs.CountLaws.{counts}
 use Rattle.delimiters.proofs.DivideLaws.{dividing-ascend}
-use Rattle.closing.specs.declared.Closing.{Closing}
-use Rattle.closing.specs.declared.Closing.TheVariants.{At, Nowhere}
+use Rattle.token.specs.declared.TokenPlace.{TokenPlace}
 use Rattle.closing.specs.Closing.{at, last_bracket, next_bracket, last_begins, closing}
 use Rattle.closing.specs.Closes.{Found, FoundLast, ClosesList}
 use Rattle.closing.proofs.Laws.{next-found, next-is, last-here, last_found}
@@ -36,6 +36,17 @@ module _ (kinds commas : List ℕ) (n : ℕ) (enough : n ≤ length commas) (sam
       let last : get_or (take n commas) (length (take n commas) - 1) 0 ≡ c = ap (λ (k : ℕ). get_or (take n commas) (k - 1) 0) long ∙ get_or-take n commas (n - 1) 0 (omega arith) ∙ sym e in
       sym (ap (last_begins 0) (sym same) ∙ begins-last 0 (take n commas) (omega (arith, long)) ∙ ap (λ (k : ℕ). k + 1) last)
 
+-- what the code reads of the commas: the last one, if there is one
+abbrev pub begins_after : Option ℕ → ℕ
+begins_after None = 0
+begins_after (Some c) = c + 1
+
+pub begins-after : (commas : List ℕ) (last : Option ℕ) → last ≡ slice_get commas (length commas - 1) → begins_after last ≡ last_begins 0 commas
+unfolding last_begins
+begins-after [] last e = ap begins_after e
+begins-after (c ∷ cs) last e =
+    ap begins_after (e ∙ slice_get-get_or (c ∷ cs) (length (c ∷ cs) - 1) 0 (omega arith)) ∙ sym (begins-last 0 (c ∷ cs) (omega arith))
+
 -- ---- the closing bracket
 
 pub begins-within : (from : ℕ) (cs : List ℕ) (n : ℕ) → Ascending from cs n → last_begins from cs ≤ n
@@ -53,17 +64,17 @@ pub record IsBracket (kinds : List ℕ) (end : ℕ) : Type 0 where
   pub bracket : kind_at kinds end ≡ close_bracket
 
 module _ (kinds : List ℕ) where
-  abbrev pub Closed : (full_line : Bool) → Closing → Type 0
-  Closed full (At end) = ClosesList full kinds end.0
-  Closed full Nowhere = Unit {0}
+  abbrev pub Closed : (full_line : Bool) → Option TokenPlace → Type 0
+  Closed full (Some end) = ClosesList full kinds end.0
+  Closed full None = Unit {0}
 
-  last-closed : (c : Closing) → FoundLast kinds c → Closed true c
-  last-closed (At end) w = w
-  last-closed Nowhere w = tt
+  last-closed : (c : Option TokenPlace) → FoundLast kinds c → Closed true c
+  last-closed (Some end) w = w
+  last-closed None w = tt
 
-  next-closed : (c : Closing) → Found kinds (last_begins 0 (dividing kinds)) c → Closed false c
-  next-closed (At end) w = w
-  next-closed Nowhere w = tt
+  next-closed : (c : Option TokenPlace) → Found kinds (last_begins 0 (dividing kinds)) c → Closed false c
+  next-closed (Some end) w = w
+  next-closed None w = tt
 
   -- the bracket that the definition gives is the one that the words say
   pub closing-closes : 0 < length kinds → (full : Bool) → Closed full (closing full kinds)

@@ -1,8 +1,7 @@
 -- Lines whose closing bracket and whose link reading are computed.
-use Rattle.std.specs.Prelude.{ℕ, ◌≡◌, refl, List, [], ◌∷◌, map}
+use Rattle.std.specs.Prelude.{Option, None, ℕ, ◌≡◌, refl, List, [], ◌∷◌, map}
 use Rattle.token.specs.Kind.{backslash, close_bracket, comma, double_quote, equal_signs, open_bracket, word}
-use Rattle.closing.specs.declared.Closing.{Closing}
-use Rattle.closing.specs.declared.Closing.TheVariants.{Nowhere}
+use Rattle.token.specs.declared.TokenPlace.{TokenPlace}
 use Rattle.closing.specs.declared.LinkMacro.{LinkMacro}
 use Rattle.closing.specs.declared.LinkMacro.TheVariants.{AsList}
 use Rattle.closing.specs.Closing.{at, last_bracket, unescaped, next_bracket}
@@ -14,21 +13,21 @@ use Rattle.closing.specs.Link.{turn, text, look_from, link_macro}
 pub record Case : Type 0 where
   pub kinds : List ℕ
   pub from : ℕ
-  pub last : Closing
-  pub next : Closing
+  pub last : Option TokenPlace
+  pub next : Option TokenPlace
 
 abbrev pub cases : List Case
 cases =
     -- `a]`
     record { kinds = word ∷ close_bracket ∷ []; from = 0; last = at 1; next = at 1 }
     -- `a\]b]c`, of document 01: 5 consumed
-    ∷ record { kinds = word ∷ backslash ∷ close_bracket ∷ word ∷ close_bracket ∷ word ∷ []; from = 0; last = Nowhere; next = at 4 }
+    ∷ record { kinds = word ∷ backslash ∷ close_bracket ∷ word ∷ close_bracket ∷ word ∷ []; from = 0; last = None; next = at 4 }
     -- `a,]b]`, from the token after the comma
     ∷ record { kinds = word ∷ comma ∷ close_bracket ∷ word ∷ close_bracket ∷ []; from = 2; last = at 4; next = at 2 }
     -- `a\]`: the last token closes though it is escaped; no next one does
-    ∷ record { kinds = word ∷ backslash ∷ close_bracket ∷ []; from = 0; last = at 2; next = Nowhere }
+    ∷ record { kinds = word ∷ backslash ∷ close_bracket ∷ []; from = 0; last = at 2; next = None }
     -- `a,b`
-    ∷ record { kinds = word ∷ comma ∷ word ∷ []; from = 2; last = Nowhere; next = Nowhere }
+    ∷ record { kinds = word ∷ comma ∷ word ∷ []; from = 2; last = None; next = None }
     ∷ []
 
 abbrev pub computed : Case → Case

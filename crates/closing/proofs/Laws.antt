@@ -1,11 +1,10 @@
 -- Laws of the closing bracket: for the loops that look for it, and that what they find is what the words say.
-use Rattle.std.specs.Prelude.{ℕ, zero, suc, ◌+◌, ◌-◌, ◌≤◌, ◌<◌, cond, not, ◌&&◌, ◌≡◌, refl, List, [], ◌∷◌, eqb, length, get_or, drop}
+use Rattle.std.specs.Prelude.{Option, None, Some, ℕ, zero, suc, ◌+◌, ◌-◌, ◌≤◌, ◌<◌, cond, not, ◌&&◌, ◌≡◌, refl, List, [], ◌∷◌, eqb, length, get_or, drop}
 use Rattle.std.proofs.Common.{arith, sym, ap, subst, ◌∙◌, drop_of_length-le, drop-cons, eq-eqb, ne_eqb}
 use Rattle.std.proofs.Math.Numerals.{add-one}
 use Rattle.std.proofs.Math.Decide.{dec_lt, ℕ_discrete}
 use Rattle.token.specs.Kind.{backslash, close_bracket}
-use Rattle.closing.specs.declared.Closing.{Closing}
-use Rattle.closing.specs.declared.Closing.TheVariants.{At, Nowhere}
+use Rattle.token.specs.declared.TokenPlace.{TokenPlace}
 use Rattle.closing.specs.Closing.{numbers_of, at, last_bracket, unescaped, next_bracket}
 use Rattle.closing.specs.Closes.{Escaped, ClosesAt, Found, FoundLast}
 
@@ -13,14 +12,14 @@ use Rattle.closing.specs.Closes.{Escaped, ClosesAt, Found, FoundLast}
 
 module _ (kinds : List ℕ) (i : ℕ) where
   -- what is left to look at from place i on
-  abbrev pub on_from : Closing
+  abbrev pub on_from : Option TokenPlace
   on_from = unescaped (get_or kinds (i - 1) 0) i (drop i kinds)
 
 back : (i : ℕ) → suc i - 1 ≡ i
 back i = omega arith
 
 module _ (kinds : List ℕ) (i : ℕ) where
-  pub next-end : length kinds ≤ i → Nowhere ≡ on_from kinds i
+  pub next-end : length kinds ≤ i → None ≡ on_from kinds i
   unfolding unescaped
   next-end h = rw (drop_of_length-le kinds h)
 
@@ -98,7 +97,7 @@ module _ (kinds : List ℕ) (from : ℕ) where
           subst (Found kinds from) (next-after kinds from e)
           (found_from (length kinds) (from + 1) (omega arith) (omega arith) (λ q low high f. absurd (e (subst (λ (x : ℕ). get_or kinds x 0 ≡ close_bracket) (let s : q ≡ from = omega arith in s) f))))
 
-pub last_none : (kinds : List ℕ) → length kinds ≡ 0 → Nowhere ≡ last_bracket kinds
+pub last_none : (kinds : List ℕ) → length kinds ≡ 0 → None ≡ last_bracket kinds
 unfolding last_bracket
 last_none [] e = refl
 last_none (k ∷ ks) e = absurd (omega arith)
@@ -108,7 +107,7 @@ module _ (kinds : List ℕ) where
   unfolding last_bracket
   last-here e = rw (eq-eqb (get_or kinds (length kinds - 1) 0) close_bracket e)
 
-  pub last-not : (get_or kinds (length kinds - 1) 0 ≡ close_bracket → ⊥) → Nowhere ≡ last_bracket kinds
+  pub last-not : (get_or kinds (length kinds - 1) 0 ≡ close_bracket → ⊥) → None ≡ last_bracket kinds
   unfolding last_bracket
   last-not e = rw (ne_eqb (get_or kinds (length kinds - 1) 0) close_bracket e)
 
@@ -132,14 +131,14 @@ closes-one kinds from p q v w = go (dec_lt p q) (dec_lt q p)
 pub next-is : (kinds : List ℕ) (from p : ℕ) → ClosesAt kinds from p → next_bracket kinds from ≡ at p
 next-is kinds from p w = go (next_bracket kinds from) (next-found kinds from (omega (arith, w.low, w.high)))
   where
-    go : (c : Closing) → Found kinds from c → c ≡ at p
-    go (At q) v = ap at (closes-one kinds from q.0 p v w)
-    go Nowhere v = let s = v p w.low w.high w.bracket in absurd (w.free s.later s.after)
+    go : (c : Option TokenPlace) → Found kinds from c → c ≡ at p
+    go (Some q) v = ap at (closes-one kinds from q.0 p v w)
+    go None v = let s = v p w.low w.high w.bracket in absurd (w.free s.later s.after)
 
 -- ---- the numbers tell the case
 
-pub same_case : (c d : Closing) → numbers_of c ≡ numbers_of d → c ≡ d
-same_case (At p) (At q) e = ap at (ap (λ n. n.place) e)
-same_case (At p) Nowhere e = let z : ◌≡◌ {A = ℕ} 0 8 = ap (λ n. n.refusal) e in absurd (omega arith)
-same_case Nowhere (At q) e = let z : ◌≡◌ {A = ℕ} 8 0 = ap (λ n. n.refusal) e in absurd (omega arith)
-same_case Nowhere Nowhere e = refl
+pub same_case : (c d : Option TokenPlace) → numbers_of c ≡ numbers_of d → c ≡ d
+same_case (Some p) (Some q) e = ap at (ap (λ n. n.place) e)
+same_case (Some p) None e = let z : ◌≡◌ {A = ℕ} 0 8 = ap (λ n. n.refusal) e in absurd (omega arith)
+same_case None (Some q) e = let z : ◌≡◌ {A = ℕ} 8 0 = ap (λ n. n.refusal) e in absurd (omega arith)
+same_case None None e = refl

@@ -8,7 +8,7 @@ use Rattle.std.proofs.Math.Path.{refl}
 use Rattle.std.proofs.Common.{sym, ap, ◌∙◌}
 use Rattle.std.proofs.Math.ListN.{length}
 use borrow.Author.Tests.{ne_eqb}
-use Rattle.token.specs.Kind.{backslash, close_bracket, double_quote, eof, equal_signs, open_bracket}
+use Rattle.token.specs.Kind.{close_bracket, double_quote, eof, equal_signs, open_bracket}
 use Rattle.closing.specs.declared.LinkMacro.{LinkMacro}
 use Rattle.closing.specs.declared.LinkMacro.TheVariants.{AsList, AsText}
 use Rattle.closing.specs.declared.look.Seen.{Seen}
@@ -18,7 +18,7 @@ use Rattle.closing.specs.Link.{holds_of, sight, goes_on, turn, text, decided, lo
 
 module _ (s : Seen) (k : ℕ) (one : Bool) where
   abbrev escaped : Bool
-  escaped = eqb s.last backslash
+  escaped = s.escaped
 
   pub turn-nested : k ≡ close_bracket → s.nested ≡ true → goes_on s.quoted false k ≡ turn s k one
   unfolding turn

@@ -1,9 +1,8 @@
 -- The closing bracket in words: nothing here knows how it is looked for.
-use Rattle.std.specs.Prelude.{ℕ, ◌-◌, ◌≤◌, ◌<◌, Bool, true, false, ◌≡◌, List, length}
+use Rattle.std.specs.Prelude.{Option, None, Some, ℕ, ◌-◌, ◌≤◌, ◌<◌, Bool, true, false, ◌≡◌, List, length}
 use Rattle.token.specs.Kind.{backslash, close_bracket, kind_at}
 use Rattle.delimiters.specs.Delimit.{dividing}
-use Rattle.closing.specs.declared.Closing.{Closing}
-use Rattle.closing.specs.declared.Closing.TheVariants.{At, Nowhere}
+use Rattle.token.specs.declared.TokenPlace.{TokenPlace}
 use Rattle.closing.specs.Closing.{last_begins}
 
 -- a CloseBracket at q, after the token at `from`, that stands after a Backslash
@@ -24,9 +23,9 @@ pub record ClosesAt (kinds : List ℕ) (from p : ℕ) : Type 0 where
 abbrev pub NoneCloses : (kinds : List ℕ) → (from : ℕ) → Type 0
 NoneCloses kinds from = (q : ℕ) → from ≤ q → q < length kinds → kind_at kinds q ≡ close_bracket → Escaped kinds from q
 
-abbrev pub Found : (kinds : List ℕ) → (from : ℕ) → Closing → Type 0
-Found kinds from (At p) = ClosesAt kinds from p.0
-Found kinds from Nowhere = NoneCloses kinds from
+abbrev pub Found : (kinds : List ℕ) → (from : ℕ) → Option TokenPlace → Type 0
+Found kinds from (Some p) = ClosesAt kinds from p.0
+Found kinds from None = NoneCloses kinds from
 
 -- the last token closes: it is a CloseBracket
 pub record ClosesLast (kinds : List ℕ) (p : ℕ) : Type 0 where
@@ -34,9 +33,9 @@ pub record ClosesLast (kinds : List ℕ) (p : ℕ) : Type 0 where
   pub bracket : kind_at kinds p ≡ close_bracket
 
 -- where no token closes, the last is no CloseBracket
-abbrev pub FoundLast : (kinds : List ℕ) → Closing → Type 0
-FoundLast kinds (At p) = ClosesLast kinds p.0
-FoundLast kinds Nowhere = kind_at kinds (length kinds - 1) ≡ close_bracket → ⊥
+abbrev pub FoundLast : (kinds : List ℕ) → Option TokenPlace → Type 0
+FoundLast kinds (Some p) = ClosesLast kinds p.0
+FoundLast kinds None = kind_at kinds (length kinds - 1) ≡ close_bracket → ⊥
 
 -- The list that is the rest of a full line is closed by the last token. Any other is closed by the token after the last dividing comma if it is
 -- CloseBracket, else (or from the first token, if no comma divides) by the next CloseBracket whose preceding token is not Backslash.

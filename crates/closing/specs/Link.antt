@@ -16,8 +16,9 @@ abbrev pub holds_of : LinkMacro → Holds
 holds_of AsList = record { list = 1; end = 0 }
 holds_of (AsText p) = record { list = 0; end = p.0 }
 
+-- what has been seen after a token of kind `last`, of which only counts whether it is Backslash
 abbrev pub sight : (quoted nested : Bool) → (last : ℕ) → Seen
-sight quoted nested last = record { quoted = quoted; nested = nested; last = last }
+sight quoted nested last = record { quoted = quoted; nested = nested; escaped = eqb last backslash }
 
 abbrev pub goes_on : (quoted nested : Bool) → (last : ℕ) → Turn
 goes_on quoted nested last = On (sight quoted nested last)
@@ -26,9 +27,8 @@ goes_on quoted nested last = On (sight quoted nested last)
 -- depth."
 unfoldable pub turn : Seen → (k : ℕ) → (one : Bool) → Turn
 turn s k one =
-    let escaped = eqb s.last backslash in
-    cond (escaped && eqb k close_bracket && s.nested) (goes_on s.quoted false k)
-    (cond (escaped && (eqb k close_bracket || eqb k open_bracket || eqb k double_quote)) (goes_on s.quoted s.nested k)
+    cond (s.escaped && eqb k close_bracket && s.nested) (goes_on s.quoted false k)
+    (cond (s.escaped && (eqb k close_bracket || eqb k open_bracket || eqb k double_quote)) (goes_on s.quoted s.nested k)
     (cond (eqb k double_quote) (goes_on (not s.quoted) s.nested k)
     (cond (eqb k open_bracket) (goes_on s.quoted true k)
     (cond (eqb k close_bracket && s.nested) (goes_on s.quoted false k)

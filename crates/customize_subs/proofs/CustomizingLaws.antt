@@ -12,20 +12,26 @@ use Rattle.std.proofs.Math.Seq.{get_or-drop}
 use Rattle.refusals.specs.Refusals.{subs_text_too_long}
 use Rattle.substitutions.specs.declared.Substitutions.{Substitutions}
 use Rattle.substitutions.specs.declared.Mode.{Mode}
-use Rattle.substitutions.specs.Kinds.{flagged}
+use Rattle.std.proofs.Common.{drop_of_length-le, drop-cons, map}
+use Rattle.std.proofs.Math.Numerals.{add-one}
+use Rattle.substitutions.specs.declared.Subs.{Subs}
+use Rattle.substitutions.specs.Kinds.{number_of, flagged}
 use Rattle.substitutions.specs.Moves.{refusal_of, insert_of, remove_of}
-use Rattle.subs_names.specs.declared.Lookup.{Lookup}
-use Rattle.customize_subs.specs.declared.Strategy.{Strategy}
-use Rattle.customize_subs.specs.declared.Strategy.TheVariants.{Insert, Prepend, Remove}
+use denote.Bor.{Bor}
+use Rattle.std.specs.Option.{option_copied}
+use Rattle.std.specs.Prelude.{Option, Some, None}
+use Rattle.subs_names.specs.declared.StepOrGroup.{StepOrGroup}
+use Rattle.substitutions.specs.declared.Move.{Move}
+use Rattle.substitutions.specs.declared.Move.TheVariants.{Insert, Prepend, Remove}
 use Rattle.subs_names.specs.Names.{lookup_of}
 use Rattle.customize_subs.specs.Text.{split, first_of, last_of}
 use Rattle.customize_subs.specs.Customizing.{part_of, move_of, entered, strategy_of, name_of, entered_name, stepped, through, start_of, meta_of, meta_refusal}
 use Rattle.customize_subs.proofs.TextLaws.{between-length, between_cons, parts-cons, parts_none}
-use Rattle.customize_subs.specs.Places.{to_comma, between, parts_from, front_of, PartAt, named, named_at, NameAt}
+use Rattle.customize_subs.specs.Places.{to_comma, between, parts_from, parts_behind, front_of, PartAt, named, named_at, NameAt}
 use Rattle.customize_subs.specs.Steps.{is_no_op}
 
 -- A set that is_no_op is what the move gives.
-pub no-op-same : (m : Mode) (t : Strategy) (k : ℕ) (s : Substitutions) → is_no_op t k s ≡ true → s ≡ move_of m t k s
+pub no-op-same : (m : Mode) (t : Move) (k : ℕ) (s : Substitutions) → is_no_op t k s ≡ true → s ≡ move_of m t k s
 unfolding insert_of remove_of
 no-op-same m Insert k s e = rw e refl
 no-op-same m Prepend k s e = absurd (false≢true e)
@@ -96,13 +102,22 @@ part-stands m a e from to text le o u f p = record {
 }
 
 -- One turn of the loop over the parts: the part from start up to end, read by the mode, stands from a up to b.
-stepped-short : (m : Mode) (s : Substitutions) (p : List ℕ) → length p < 4 → s ≡ stepped m s p
+pub stepped-short : (m : Mode) (s : Substitutions) (p : List ℕ) → length p < 4 → s ≡ stepped m s p
 unfolding stepped
 stepped-short m s p h = rw (lt-ltb (length p) 4 h)
 
 stepped-long : (m : Mode) (s : Substitutions) (p : List ℕ) → 4 ≤ length p → entered_name m (strategy_of p) (lookup_of (name_of p)) s ≡ stepped m s p
 unfolding stepped
 stepped-long m s p h = rw (le-ltb (length p) 4 h)
+
+-- One part, as it is read: its length, its move, its name and what that name is found to be.
+module _ (m : Mode) (s : Substitutions) (p part : List ℕ) (q : p ≡ part) where
+  pub part-short : length p < 4 → s ≡ stepped m s part
+  part-short k = stepped-short m s p k ∙ ap (stepped m s) q
+
+  pub part-named : (how : Move) (name : List ℕ) (found : Option StepOrGroup) → 4 ≤ length p → how ≡ strategy_of p → name ≡ name_of p → found ≡ lookup_of name
+      → entered_name m how found s ≡ stepped m s part
+  part-named how name found k w n f = rw (f, n, w) (stepped-long m s p k ∙ ap (stepped m s) q)
 
 module _ (m : Mode) (s : Substitutions) (text : List ℕ) (start end : ℕ) (h : start ≤ length text) (e : end ≡ start + to_comma (drop start text)) where
   turn-with : (t : Substitutions) → t ≡ stepped m s (part_of m (between start end text))
@@ -114,7 +129,7 @@ module _ (m : Mode) (s : Substitutions) (text : List ℕ) (start end : ℕ) (h :
     pub turn-short : b - a < 4 → through m s (parts_from (end + 1) text) ≡ through m s (parts_from start text)
     turn-short k = turn-with s (stepped-short m s (between a b text) (omega (arith, between-length a b text le)) ∙ ap (stepped m s) q)
 
-    pub turn-name : (how : Strategy) (found : Lookup) (name : List ℕ) (t : Substitutions) → 4 ≤ b - a → how ≡ strategy_of (between a b text)
+    pub turn-name : (how : Move) (found : Option StepOrGroup) (name : List ℕ) (t : Substitutions) → 4 ≤ b - a → how ≡ strategy_of (between a b text)
         → name ≡ name_of (between a b text) → found ≡ lookup_of name → t ≡ entered_name m how found s
         → through m t (parts_from (end + 1) text) ≡ through m s (parts_from start text)
     turn-name how found name t k w n f r =
@@ -125,8 +140,19 @@ pub turns-over : (m : Mode) (s : Substitutions) (text : List ℕ) (start : ℕ) 
 unfolding through
 turns-over m s text start h = rw (parts_none start text h)
 
+-- The parts one after the other, cut off the text.
+module _ (m : Mode) (s : Substitutions) where
+  pub through-cut : (rest : Option (Bor (List ℕ))) (text : Bor (List ℕ)) (part : List ℕ) (behind : List (List ℕ)) {next : Substitutions} → rest ≡ Some text
+      → split text.now ≡ part ∷ behind → next ≡ stepped m s (part_of m part) → through m next behind ≡ through m s (parts_behind (option_copied rest))
+  unfolding through
+  through-cut rest text part behind e q n = rw (e, q, n)
+
+  pub through-over : (rest : Option (Bor (List ℕ))) → rest ≡ None → s ≡ through m s (parts_behind (option_copied rest))
+  unfolding through
+  through-over rest e = rw e
+
 -- Kinds one after the other.
-module _ (m : Mode) (how : Strategy) (s r : Substitutions) where
+module _ (m : Mode) (how : Move) (s r : Substitutions) where
   pub entered-none : s ≡ entered m how [] s
   unfolding entered
   entered-none = refl
@@ -145,6 +171,17 @@ module _ (m : Mode) (how : Strategy) (s r : Substitutions) where
   unfolding entered
   entered-six k₁ k₂ k₃ k₄ k₅ k₆ s₁ s₂ s₃ s₄ s₅ e₁ e₂ e₃ e₄ e₅ e =
       e ∙ ap (move_of m how k₆) (e₅ ∙ ap (move_of m how k₅) (e₄ ∙ ap (move_of m how k₄) (e₃ ∙ ap (move_of m how k₃) (e₂ ∙ ap (move_of m how k₂) e₁))))
+
+-- Kinds of a list, from place i on.
+module _ (m : Mode) (how : Move) (s r : Substitutions) (kinds : List Subs) (i : ℕ) where
+  pub entered-next : (d : Subs) → i < length kinds → r ≡ move_of m how (number_of (get_or kinds i d)) s
+      → entered m how (map number_of (drop (i + 1) kinds)) r ≡ entered m how (map number_of (drop i kinds)) s
+  unfolding entered
+  entered-next d lt e = rw (drop-cons kinds i d lt, add-one i, e)
+
+pub entered-over : (m : Mode) (how : Move) (s : Substitutions) (kinds : List Subs) (i : ℕ) → length kinds ≤ i → s ≡ entered m how (map number_of (drop i kinds)) s
+unfolding entered
+entered-over m how s kinds i h = rw (drop_of_length-le kinds h)
 
 -- The refusals.
 module _ (m : Mode) (s : Substitutions) (text : List ℕ) where

@@ -16,10 +16,10 @@ use Rattle.substitutions.proofs.StartingLaws.{none-sound}
 use Rattle.substitutions.proofs.AnswersLaws.{accepted}
 use Rattle.subs_names.specs.declared.StepOrGroup.{StepOrGroup}
 use Rattle.subs_names.specs.declared.StepOrGroup.TheVariants.{None, Normal, Verbatim, SpecialChars, Callouts, Quotes, Attributes, Replacements, Macros, PostReplacements}
-use Rattle.subs_names.specs.declared.Lookup.{Lookup}
-use Rattle.subs_names.specs.declared.Lookup.TheVariants.{Found, Unknown}
-use Rattle.customize_subs.specs.declared.Strategy.{Strategy}
-use Rattle.customize_subs.specs.declared.Strategy.TheVariants.{Insert, Prepend, Remove}
+use Rattle.std.specs.Prelude as looked_up
+use Rattle.std.specs.Prelude.{Option, Some}
+use Rattle.substitutions.specs.declared.Move.{Move}
+use Rattle.substitutions.specs.declared.Move.TheVariants.{Insert, Prepend, Remove}
 use Rattle.subs_names.specs.Names.{lookup_of}
 use Rattle.customize_subs.specs.Text.{split, modified}
 use Rattle.customize_subs.specs.Customizing.{part_of, move_of, kinds_of, entered, entered_name, strategy_of, name_of, stepped, through, start_of, meta_of, meta_refusal}
@@ -46,8 +46,8 @@ kinds-right m PostReplacements = refl
 
 -- What every move keeps, the whole text keeps.
 module _ (m : Mode) (Kept : Substitutions → Type 0)
-    (moves : (how : Strategy) (k : ℕ) (s : Substitutions) → 1 ≤ k → k ≤ 7 → Kept s → Kept (move_of m how k s)) where
-  keeps-kinds : (how : Strategy) (ks : List ℕ) (s : Substitutions) → kinds ks ≡ true → Kept s → Kept (entered m how ks s)
+    (moves : (how : Move) (k : ℕ) (s : Substitutions) → 1 ≤ k → k ≤ 7 → Kept s → Kept (move_of m how k s)) where
+  keeps-kinds : (how : Move) (ks : List ℕ) (s : Substitutions) → kinds ks ≡ true → Kept s → Kept (entered m how ks s)
   unfolding kinds entered
   keeps-kinds how [] s e h = h
   keeps-kinds how (k ∷ ks) s e h =
@@ -55,9 +55,9 @@ module _ (m : Mode) (Kept : Substitutions → Type 0)
       keeps-kinds how ks (move_of m how k s) (and_right (leb 1 k && leb k 7) (kinds ks) e)
       (moves how k s (leb-true 1 k (and_left (leb 1 k) (leb k 7) f)) (leb-true k 7 (and_right (leb 1 k) (leb k 7) f)) h)
 
-  keeps-name : (how : Strategy) (found : Lookup) (s : Substitutions) → Kept s → Kept (entered_name m how found s)
-  keeps-name how (Found step) s h = keeps-kinds how (kinds_of m step) s (kinds-right m step) h
-  keeps-name how Unknown s h = h
+  keeps-name : (how : Move) (found : Option StepOrGroup) (s : Substitutions) → Kept s → Kept (entered_name m how found s)
+  keeps-name how (Some step) s h = keeps-kinds how (kinds_of m step) s (kinds-right m step) h
+  keeps-name how looked_up.None s h = h
 
   keeps-part : (s : Substitutions) (part : List ℕ) → Kept s → Kept (stepped m s part)
   unfolding stepped
@@ -89,12 +89,12 @@ room-seven : (m : Mode) → room m ≤ 7
 room-seven Port = omega arith
 room-seven Sheet = omega arith
 
-moves-held : (m : Mode) (how : Strategy) (k : ℕ) (s : Substitutions) → 1 ≤ k → k ≤ 7 → held s ≡ true → held (move_of m how k s) ≡ true
+moves-held : (m : Mode) (how : Move) (k : ℕ) (s : Substitutions) → 1 ≤ k → k ≤ 7 → held s ≡ true → held (move_of m how k s) ≡ true
 moves-held m Insert k s a b h = insert-held s k a b (room m) (room-six m) (room-seven m) h
 moves-held m Prepend k s a b h = prepend-held s k a b h
 moves-held m Remove k s a b h = remove-held s k a b h
 
-pub moves-sound : (how : Strategy) (k : ℕ) (s : Substitutions) → 1 ≤ k → k ≤ 7 → sound s ≡ true → sound (move_of Sheet how k s) ≡ true
+pub moves-sound : (how : Move) (k : ℕ) (s : Substitutions) → 1 ≤ k → k ≤ 7 → sound s ≡ true → sound (move_of Sheet how k s) ≡ true
 moves-sound Insert k s a b h = insert-sound s k a b h
 moves-sound Prepend k s a b h = prepend-sound s k a b h
 moves-sound Remove k s a b h = remove-sound s k a b h
@@ -112,8 +112,11 @@ sheet-sound s e = by (held s) (sound s) e
     by false false q = absurd (omega arith)
 
 -- What a part's move and the set that a text begins with keep.
-pub entered-held : (m : Mode) (how : Strategy) (step : StepOrGroup) (s : Substitutions) → held s ≡ true → held (entered m how (kinds_of m step) s) ≡ true
+pub entered-held : (m : Mode) (how : Move) (step : StepOrGroup) (s : Substitutions) → held s ≡ true → held (entered m how (kinds_of m step) s) ≡ true
 entered-held m how step s h = keeps-kinds m (λ t. held t ≡ true) (moves-held m) how (kinds_of m step) s (kinds-right m step) h
+
+pub stepped-held : (m : Mode) (s : Substitutions) (part : List ℕ) → held s ≡ true → held (stepped m s part) ≡ true
+stepped-held m s part h = keeps-part m (λ t. held t ≡ true) (moves-held m) s part h
 
 pub start-held : (s : Substitutions) (text : List ℕ) → held s ≡ true → held (start_of s text) ≡ true
 unfolding start_of

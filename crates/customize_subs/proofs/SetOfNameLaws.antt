@@ -13,8 +13,8 @@ use Rattle.substitutions.specs.HeldPlaces.{place}
 use Rattle.substitutions.proofs.HeldPlacesLaws.{held-read}
 use Rattle.subs_names.specs.declared.StepOrGroup.{StepOrGroup}
 use Rattle.subs_names.specs.declared.StepOrGroup.TheVariants.{None, Normal, Verbatim, SpecialChars, Callouts, Quotes, Attributes, Replacements, Macros, PostReplacements}
-use Rattle.customize_subs.specs.declared.Strategy.{Strategy}
-use Rattle.customize_subs.specs.declared.Strategy.TheVariants.{Insert}
+use Rattle.substitutions.specs.declared.Move.{Move}
+use Rattle.substitutions.specs.declared.Move.TheVariants.{Insert}
 use Rattle.customize_subs.specs.Customizing.{kinds_of, entered}
 use Rattle.customize_subs.specs.Steps.{set_of_name}
 
@@ -76,7 +76,7 @@ set-of-name-is Sheet Replacements = refl
 set-of-name-is Sheet Macros = refl
 set-of-name-is Sheet PostReplacements = refl
 
-pub enter-into-empty : (m : Mode) (how : Strategy) (step : StepOrGroup) (s r : Substitutions) → held s ≡ true → s.flags ≡ 0 → how ≡ Insert → r ≡ set_of_name m step
+pub enter-into-empty : (m : Mode) (how : Move) (step : StepOrGroup) (s r : Substitutions) → held s ≡ true → s.flags ≡ 0 → how ≡ Insert → r ≡ set_of_name m step
     → r ≡ entered m how (kinds_of m step) s
 enter-into-empty m how step s r h f i e =
-    e ∙ set-of-name-is m step ∙ ap (entered m Insert (kinds_of m step)) (sym (flagless-empty s h f)) ∙ ap (λ (x : Strategy). entered m x (kinds_of m step) s) (sym i)
+    e ∙ set-of-name-is m step ∙ ap (entered m Insert (kinds_of m step)) (sym (flagless-empty s h f)) ∙ ap (λ (x : Move). entered m x (kinds_of m step) s) (sym i)

@@ -17,11 +17,11 @@ use Rattle.substitutions.proofs.StartingLaws.{none-sound}
 use Rattle.substitutions.proofs.OrderLaws.{others, insert-seven, remove-others, prepend-first, sound-set, sound-times}
 use Rattle.subs_names.specs.declared.StepOrGroup.{StepOrGroup}
 use Rattle.subs_names.specs.declared.StepOrGroup.TheVariants.{None, Normal, Verbatim, SpecialChars, Callouts, Quotes, Attributes, Replacements, Macros, PostReplacements}
-use Rattle.subs_names.specs.declared.Lookup.{Lookup}
-use Rattle.subs_names.specs.declared.Lookup.TheVariants.{Found, Unknown}
+use Rattle.std.specs.Prelude as looked_up
+use Rattle.std.specs.Prelude.{Option, Some}
 use Rattle.subs_names.specs.Names.{lookup_of}
-use Rattle.customize_subs.specs.declared.Strategy.{Strategy}
-use Rattle.customize_subs.specs.declared.Strategy.TheVariants.{Insert, Prepend, Remove}
+use Rattle.substitutions.specs.declared.Move.{Move}
+use Rattle.substitutions.specs.declared.Move.TheVariants.{Insert, Prepend, Remove}
 use Rattle.customize_subs.specs.Text.{split, spaced, modified, first_of, last_of}
 use Rattle.customize_subs.specs.Customizing.{move_of, kinds_of, entered, entered_name, strategy_of, name_of, stepped, through, start_of, meta_of}
 use Rattle.customize_subs.proofs.MetaLaws.{kinds, kinds-right, moves-sound}
@@ -60,17 +60,17 @@ abbrev Follows : Substitutions → List ℕ → Type 0
 Follows s order = (sound s ≡ true) × (order_of s.places ≡ order)
 
 -- What a part's move does to an order, by one step and by the steps of a name.
-abbrev put : Strategy → ℕ → List ℕ → List ℕ
+abbrev put : Move → ℕ → List ℕ → List ℕ
 put Insert = put_last
 put Prepend = put_first
 put Remove = take_out
 
-abbrev put_all : Strategy → List ℕ → List ℕ → List ℕ
+abbrev put_all : Move → List ℕ → List ℕ → List ℕ
 put_all Insert = appended
 put_all Prepend = prepended
 put_all Remove = removed
 
-all-in-turn : (how : Strategy) (steps order : List ℕ) → in_turn (put how) steps order ≡ put_all how steps order
+all-in-turn : (how : Move) (steps order : List ℕ) → in_turn (put how) steps order ≡ put_all how steps order
 all-in-turn Insert steps order = refl
 all-in-turn Prepend steps order = refl
 all-in-turn Remove steps order = refl
@@ -86,16 +86,16 @@ module _ (s : Substitutions) (k : ℕ) (a : 1 ≤ k) (b : k ≤ 7) (e : sound s 
           insert-seven s k a b (sound-held s e) f
           ∙ rw (has-none k s.places (omega (arith, sound-times s k a b e, ap one f)))
 
-  moves_put : (how : Strategy) → order_of (move_of Sheet how k s).places ≡ put how k (order_of s.places)
+  moves_put : (how : Move) → order_of (move_of Sheet how k s).places ≡ put how k (order_of s.places)
   unfolding put_first
   moves_put Insert = insert-puts
   moves_put Prepend = prepend-first s k a b (sound-held s e) ∙ rw (others-out k (order_of s.places))
   moves_put Remove = remove-others s k a b (sound-held s e) ∙ others-out k (order_of s.places)
 
-follows-kind : (how : Strategy) (k : ℕ) (s : Substitutions) (order : List ℕ) → 1 ≤ k → k ≤ 7 → Follows s order → Follows (move_of Sheet how k s) (put how k order)
+follows-kind : (how : Move) (k : ℕ) (s : Substitutions) (order : List ℕ) → 1 ≤ k → k ≤ 7 → Follows s order → Follows (move_of Sheet how k s) (put how k order)
 follows-kind how k s order a b h = (moves-sound how k s a b h.0, moves_put s k a b h.0 how ∙ ap (put how k) h.1)
 
-follows-kinds : (how : Strategy) (ks : List ℕ) (s : Substitutions) (order : List ℕ) → kinds ks ≡ true → Follows s order → Follows (entered Sheet how ks s) (in_turn (put how) ks order)
+follows-kinds : (how : Move) (ks : List ℕ) (s : Substitutions) (order : List ℕ) → kinds ks ≡ true → Follows s order → Follows (entered Sheet how ks s) (in_turn (put how) ks order)
 unfolding kinds entered in_turn
 follows-kinds how [] s order e h = h
 follows-kinds how (k ∷ ks) s order e h =
@@ -116,11 +116,11 @@ same-steps Replacements = refl
 same-steps Macros = refl
 same-steps PostReplacements = refl
 
-follows-name : (how : Strategy) (found : Lookup) (s : Substitutions) (order : List ℕ) → Follows s order → Follows (entered_name Sheet how found s) (by_name (put_all how) found order)
-follows-name how (Found step) s order h =
+follows-name : (how : Move) (found : Option StepOrGroup) (s : Substitutions) (order : List ℕ) → Follows s order → Follows (entered_name Sheet how found s) (by_name (put_all how) found order)
+follows-name how (Some step) s order h =
     let r = follows-kinds how (kinds_of Sheet step) s order (kinds-right Sheet step) h in
     (r.0, r.1 ∙ all-in-turn how (kinds_of Sheet step) order ∙ ap (λ (steps : List ℕ). put_all how steps order) (same-steps step))
-follows-name how Unknown s order h = h
+follows-name how looked_up.None s order h = h
 
 follows-part : (s : Substitutions) (order part : List ℕ) → Follows s order → Follows (stepped Sheet s part) (on_part part order)
 unfolding stepped strategy_of name_of on_part

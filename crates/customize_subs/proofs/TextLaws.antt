@@ -1,13 +1,14 @@
 -- Parts of the text by their places, and laws for each way through the loops that find them.
 use Prim.Native.Nat.{ℕ, zero, suc, ◌+◌, ◌-◌, ◌≤◌, ◌<◌}
-use Rattle.std.specs.Prelude.{◌≡◌, refl, Bool, true, false, cond, ◌||◌, List, [], ◌∷◌, ◌++◌, eqb, ltb, leb, drop}
-use Rattle.std.proofs.Common.{sym, ◌∙◌, drop_of_length-le, drop-drop, take-suc, get_or-drop, length-take-le}
+use Rattle.std.specs.Prelude.{◌≡◌, refl, Bool, true, false, cond, ◌||◌, List, [], ◌∷◌, ◌++◌, eqb, ltb, leb, drop, position, not, Option, Some, None}
+use Rattle.std.proofs.Common.{sym, ◌∙◌, drop_of_length-le, drop-drop, take-suc, get_or-drop, length-take-le, take_all}
 use Rattle.std.proofs.Math.Path.{ap}
 use Rattle.std.proofs.Math.Bool.{and-false, or_assoc}
 use Rattle.std.proofs.lemmas.Bool.{false≢true}
 use native.Mathlib.Omega.{arith}
 use Rattle.std.proofs.Math.Numerals.{add-one}
-use borrow.Author.Tests.{ne_eqb, le-leb, lt-leb, lt-ltb, leb-true}
+use borrow.Author.Tests.{ne_eqb, le-leb, lt-leb, lt-ltb, leb-true, ltb-true, ltb-false, le-ltb}
+use Rattle.std.specs.List.{position_or_len}
 use Rattle.std.specs.Int.Bits.{bit_or, or_zero_l, or_zero_r, or_self}
 use Rattle.std.proofs.Math.Dec.{leb-suc-suc}
 use Rattle.std.proofs.Math.ListN.{length, take, get_or, length-drop}
@@ -189,3 +190,81 @@ parts_none start text h = rw (lt-leb start (length text) h)
 pub parts_all : (text : List ℕ) → parts_from 0 text ≡ split text
 unfolding parts_from
 parts_all text = rw (le-leb 0 (length text) (omega arith))
+
+abbrev or_0 : Option ℕ → ℕ
+or_0 None = 0
+or_0 (Some n) = n
+
+abbrev is_some : Option ℕ → Bool
+is_some None = false
+is_some (Some n) = true
+
+-- The first comma, as the search for it tells, and the text cut there.
+comma-position : (xs : List ℕ) → position_or_len (λ b. eqb b 44) xs ≡ to_comma xs
+unfolding to_comma
+comma-position [] = refl
+comma-position (b ∷ bs) = rw (comma-position bs) (by (eqb b 44) (to_comma bs))
+  where
+    by : (t : Bool) (n : ℕ) → cond (not t) (1 + n) 0 ≡ cond t 0 (suc n)
+    by true n = refl
+    by false n = omega arith
+
+module _ (xs : List ℕ) where
+  cut-at : (n at : ℕ) → n ≡ at → at < length xs → rest n xs ≡ split (take (length xs - (at + 1)) (drop (at + 1) xs))
+  unfolding rest
+  cut-at n at e h = rw (e, lt-ltb at (length xs) h, take_all (length xs - (at + 1)) (drop (at + 1) xs) (omega (arith, length-drop (at + 1) xs)), add-one at)
+
+  pub cut-some : (at : ℕ) → position (λ b. eqb b 44) xs ≡ Some at → split xs ≡ take at xs ∷ split (take (length xs - (at + 1)) (drop (at + 1) xs))
+  cut-some at = by (ltb (position_or_len (λ b. eqb b 44) xs) (length xs)) refl
+    where
+      by : (t : Bool) → ltb (position_or_len (λ b. eqb b 44) xs) (length xs) ≡ t → cond t (Some (position_or_len (λ b. eqb b 44) xs)) None ≡ Some at
+          → split xs ≡ take at xs ∷ split (take (length xs - (at + 1)) (drop (at + 1) xs))
+      by true h e =
+          let n : to_comma xs ≡ at = sym (comma-position xs) ∙ ap (or_0) e in
+          let lt : at < length xs = omega (arith, n, comma-position xs, ltb-true _ _ h) in
+          split-first xs ∙ ap (λ (i : ℕ). take i xs ∷ rest (to_comma xs) xs) n ∙ ap (λ (l : List (List ℕ)). take at xs ∷ l) (cut-at (to_comma xs) at n lt)
+      by false h e = absurd (false≢true (ap is_some e))
+
+  pub cut-none : position (λ b. eqb b 44) xs ≡ None → split xs ≡ xs ∷ []
+  unfolding rest
+  cut-none = by (ltb (position_or_len (λ b. eqb b 44) xs) (length xs)) refl
+    where
+      by : (t : Bool) → ltb (position_or_len (λ b. eqb b 44) xs) (length xs) ≡ t → cond t (Some (position_or_len (λ b. eqb b 44) xs)) None ≡ None → split xs ≡ xs ∷ []
+      by true h e = absurd (false≢true (sym (ap is_some e)))
+      by false h e =
+          let n : length xs ≤ to_comma xs = omega (arith, comma-position xs, ltb-false _ _ h) in
+          split-first xs ∙ rw (le-ltb (to_comma xs) (length xs) n, take_all (to_comma xs) xs n)
+
+-- Spaces taken off one by one, at the front and at the end of a list.
+pub front_more : (l : List ℕ) → 1 ≤ length l → get_or l 0 0 ≡ 32 → front (take (length l - 1) (drop 1 l)) ≡ front l
+unfolding front
+front_more [] h e = absurd (omega arith)
+front_more (b ∷ bs) h e = rw (e, take_all (suc (length bs) - 1) bs (omega arith))
+
+pub front_over : (l : List ℕ) → (get_or l 0 0 ≡ 32 → ⊥) → l ≡ front l
+unfolding front
+front_over [] e = refl
+front_over (b ∷ bs) e = rw (ne_eqb b 32 e)
+
+pub front_none : (l : List ℕ) → length l < 1 → l ≡ front l
+unfolding front
+front_none [] h = refl
+front_none (b ∷ bs) h = absurd (omega arith)
+
+pub back_none : (l : List ℕ) → length l < 1 → l ≡ back l
+unfolding back
+back_none [] h = refl
+back_none (b ∷ bs) h = absurd (omega arith)
+
+whole : (l : List ℕ) → between 0 (length l) l ≡ l
+unfolding between
+whole l = take_all (length l - 0) l (omega arith)
+
+pub back_more : (l : List ℕ) → 1 ≤ length l → get_or l (length l - 1) 0 ≡ 32 → back (take (length l - 1) l) ≡ back l
+unfolding between
+back_more l h e =
+    let m : length l - 1 - 0 ≡ length l - 1 = omega arith in
+    ap (λ (n : ℕ). back (take n l)) (sym m) ∙ back-next 0 (length l) l (omega arith) (omega arith) e ∙ ap back (whole l)
+
+pub back_over : (l : List ℕ) → 1 ≤ length l → (get_or l (length l - 1) 0 ≡ 32 → ⊥) → l ≡ back l
+back_over l h e = sym (whole l) ∙ back-here 0 (length l) l (omega arith) (omega arith) e ∙ ap back (whole l)

@@ -1,6 +1,6 @@
 -- What the subs text makes of a set, and what `from_meta` answers. Where port mode (the Rust's) and sheet mode differ, a
 -- definition by cases on the mode says so; all else is the same for both.
-use Rattle.std.specs.Prelude.{ℕ, ◌-◌, Bool, true, false, cond, ◌&&◌, List, [], ◌∷◌, eqb, ltb, length, take, drop}
+use Rattle.std.specs.Prelude.{ℕ, ◌-◌, Bool, true, false, cond, ◌&&◌, List, [], ◌∷◌, eqb, ltb, length, take, drop, Option, Some}
 use Rattle.refusals.specs.Refusals.{subs_text_too_long}
 use Rattle.substitutions.specs.declared.Substitutions.{Substitutions}
 use Rattle.substitutions.specs.declared.SetAnswer.{SetAnswer}
@@ -9,10 +9,9 @@ use Rattle.substitutions.specs.declared.Mode.TheVariants.{Port, Sheet}
 use Rattle.substitutions.specs.Moves.{empty_set, room, insert_of, remove_of, prepend_of, refusal_of, answer}
 use Rattle.subs_names.specs.declared.StepOrGroup.{StepOrGroup}
 use Rattle.subs_names.specs.declared.StepOrGroup.TheVariants.{None, Normal, Verbatim, SpecialChars, Callouts, Quotes, Attributes, Replacements, Macros, PostReplacements}
-use Rattle.subs_names.specs.declared.Lookup.{Lookup}
-use Rattle.subs_names.specs.declared.Lookup.TheVariants.{Found, Unknown}
-use Rattle.customize_subs.specs.declared.Strategy.{Strategy}
-use Rattle.customize_subs.specs.declared.Strategy.TheVariants.{Insert, Prepend, Remove}
+use Rattle.std.specs.Prelude as looked_up
+use Rattle.substitutions.specs.declared.Move.{Move}
+use Rattle.substitutions.specs.declared.Move.TheVariants.{Insert, Prepend, Remove}
 use Rattle.subs_names.specs.Names.{lookup_of}
 use Rattle.customize_subs.specs.Text.{split, spaced, modified, first_of, last_of}
 
@@ -27,7 +26,7 @@ verbatim_of Port = 1 ∷ 4 ∷ []
 verbatim_of Sheet = 1 ∷ 7 ∷ []
 
 -- and insert may fill the first six places, in sheet mode all seven (`room`).
-abbrev pub move_of : Mode → Strategy → ℕ → Substitutions → Substitutions
+abbrev pub move_of : Mode → Move → ℕ → Substitutions → Substitutions
 move_of m Insert k s = insert_of (room m) k s
 move_of m Prepend k s = prepend_of k s
 move_of m Remove k s = remove_of k s
@@ -46,17 +45,17 @@ kinds_of m PostReplacements = 6 ∷ []
 kinds_of m Callouts = 7 ∷ []
 
 -- A group is taken kind by kind in that order, by the part's move.
-unfoldable pub entered : Mode → Strategy → List ℕ → Substitutions → Substitutions
+unfoldable pub entered : Mode → Move → List ℕ → Substitutions → Substitutions
 entered m how [] s = s
 entered m how (k ∷ ks) s = entered m how ks (move_of m how k s)
 
 -- A part whose name is not in the list is passed over.
-abbrev pub entered_name : Mode → Strategy → Lookup → Substitutions → Substitutions
-entered_name m how (Found step) s = entered m how (kinds_of m step) s
-entered_name m how Unknown s = s
+abbrev pub entered_name : Mode → Move → Option StepOrGroup → Substitutions → Substitutions
+entered_name m how (Some step) s = entered m how (kinds_of m step) s
+entered_name m how looked_up.None s = s
 
 -- Leading + inserts, else trailing + prepends, else leading − removes, else insert; the name is what is left.
-unfoldable pub strategy_of : List ℕ → Strategy
+unfoldable pub strategy_of : List ℕ → Move
 strategy_of part = cond (eqb (first_of part) 43) Insert (cond (eqb (last_of part) 43) Prepend (cond (eqb (first_of part) 45) Remove Insert))
 
 unfoldable pub name_of : List ℕ → List ℕ

@@ -1,7 +1,9 @@
 -- What `from_meta` and `from_meta_sheet` promise of their answer r to a set, a subs text and whether there is one.
-use Rattle.std.specs.Prelude.{ℕ, ◌≡◌, Bool, true, List}
+use Rattle.std.specs.Prelude.{ℕ, ◌≡◌, Bool, true, false, List, Option, Some, None}
 use Rattle.substitutions.specs.declared.Substitutions.{Substitutions}
 use Rattle.substitutions.specs.declared.SetAnswer.{SetAnswer}
+use Rattle.substitutions.specs.declared.Mode.{Mode}
+use Rattle.substitutions.specs.declared.Mode.TheVariants.{Port, Sheet}
 use Rattle.substitutions.specs.Held.{held, sound}
 use Rattle.substitutions.specs.Order.{order_of, set_of}
 use Rattle.customize_subs.specs.Customizing.{port_meta, sheet_meta}
@@ -19,3 +21,12 @@ pub record SheetOutcome (s : Substitutions) (present : Bool) (text : List ℕ) (
   pub order : r.refusal ≡ 0 → present ≡ true → r.set ≡ set_of (sheet_order (order_of s.places) text)
   -- where nothing is refused the set is sound again
   pub stays_sound : r.refusal ≡ 0 → sound r.set ≡ true
+
+abbrev pub MetaOutcome : Mode → Substitutions → Bool → List ℕ → SetAnswer → Type 0
+MetaOutcome Port = PortOutcome
+MetaOutcome Sheet = SheetOutcome
+
+-- The same of a text that may be missing: then whatever text is taken for it.
+abbrev pub Makes : Mode → Substitutions → Option (List ℕ) → SetAnswer → Type 0
+Makes m s None r = (text : List ℕ) → MetaOutcome m s false text r
+Makes m s (Some text) r = MetaOutcome m s true text r

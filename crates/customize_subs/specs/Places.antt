@@ -1,11 +1,9 @@
--- Parts of a subs text by their places, as src/parts.rt finds them. `TextLaws` and `CustomizingLaws` tie them to `Text` and `Customizing`.
-use Rattle.std.specs.Prelude.{ℕ, suc, ◌+◌, ◌-◌, ◌≡◌, Bool, cond, ◌||◌, List, [], ◌∷◌, eqb, leb, length, take, drop}
+-- Parts of a subs text by their places, as laws speak of them; the code reads them as slices. `TextLaws` and `CustomizingLaws` tie them to `Text` and `Customizing`.
+use Rattle.std.specs.Prelude.{ℕ, suc, ◌+◌, ◌-◌, ◌≡◌, Bool, cond, ◌||◌, List, [], ◌∷◌, eqb, leb, length, take, drop, ◌<◌, Option, Some, None}
 use Rattle.substitutions.specs.declared.Mode.{Mode}
 use Rattle.substitutions.specs.declared.Mode.TheVariants.{Port, Sheet}
-use Rattle.customize_subs.specs.declared.Strategy.{Strategy}
-use Rattle.customize_subs.specs.declared.Strategy.TheVariants.{Insert, Prepend, Remove}
-use Rattle.customize_subs.specs.declared.parts.Span.{Span}
-use Rattle.customize_subs.specs.declared.parts.Named.{Named}
+use Rattle.substitutions.specs.declared.Move.{Move}
+use Rattle.substitutions.specs.declared.Move.TheVariants.{Insert, Prepend, Remove}
 use Rattle.customize_subs.specs.Text.{split, front, first_of, last_of}
 use Rattle.customize_subs.specs.Customizing.{part_of, strategy_of, name_of}
 
@@ -31,6 +29,16 @@ abbrev pub front_of : Mode → List ℕ → List ℕ
 front_of Port part = part
 front_of Sheet part = front part
 
+-- A part of the text: the bytes from `start` up to `end`; and the move that a part asks for with the places of its name.
+pub record Span : Type 0 where
+  pub start : ℕ
+  pub end : ℕ
+
+pub record Named : Type 0 where
+  pub strategy : Move
+  pub start : ℕ
+  pub end : ℕ
+
 -- Where the part from place a up to place e stands as the mode reads it: it begins behind the spaces in front of it, and is as long as
 -- it is without those at its ends.
 pub record PartAt (m : Mode) (a e : ℕ) (text : List ℕ) (r : Span) : Type 0 where
@@ -39,7 +47,7 @@ pub record PartAt (m : Mode) (a e : ℕ) (text : List ℕ) (r : Span) : Type 0 w
   pub part : between r.start r.end text ≡ part_of m (between a e text)
 
 -- The move of the part from place a up to place e, and the places of its name: without a leading + or −, else without a trailing +.
-abbrev pub named : Strategy → ℕ → ℕ → Named
+abbrev pub named : Move → ℕ → ℕ → Named
 named how a e = record { strategy = how; start = a; end = e }
 
 unfoldable pub named_at : ℕ → ℕ → List ℕ → Named
@@ -53,3 +61,13 @@ pub record NameAt (a e : ℕ) (text : List ℕ) (r : Named) : Type 0 where
   pub places : r ≡ named_at a e (between a e text)
   pub strategy : r.strategy ≡ strategy_of (between a e text)
   pub name : between r.start r.end text ≡ name_of (between a e text)
+
+-- The parts of the text behind a comma: none where there is no comma.
+abbrev pub parts_behind : Option (List ℕ) → List (List ℕ)
+parts_behind None = []
+parts_behind (Some text) = split text
+
+-- That text is shorter.
+abbrev pub Shorter : Option (List ℕ) → List ℕ → Type 0
+Shorter None text = Unit {0}
+Shorter (Some behind) text = length behind < length text

@@ -4,11 +4,10 @@
 -- Where each line comes from. "Documentation" is the AsciiDoc language documentation on applying substitutions to blocks, told
 -- from memory: the page could not be reached. Words in quotes are document 01's, and a line that quotes it alone claims nothing
 -- of the documentation.
-use Rattle.std.specs.Prelude.{ℕ, ◌-◌, Bool, false, cond, ◌||◌, List, [], ◌∷◌, ◌++◌, eqb, ltb, length, take, drop}
+use Rattle.std.specs.Prelude.{ℕ, ◌-◌, Bool, false, cond, ◌||◌, List, [], ◌∷◌, ◌++◌, eqb, ltb, length, take, drop, Option, Some}
 use Rattle.subs_names.specs.declared.StepOrGroup.{StepOrGroup}
 use Rattle.subs_names.specs.declared.StepOrGroup.TheVariants.{None, Normal, Verbatim, SpecialChars, Callouts, Quotes, Attributes, Replacements, Macros, PostReplacements}
-use Rattle.subs_names.specs.declared.Lookup.{Lookup}
-use Rattle.subs_names.specs.declared.Lookup.TheVariants.{Found, Unknown}
+use Rattle.std.specs.Prelude as looked_up
 use Rattle.subs_names.specs.Names.{lookup_of}
 use Rattle.customize_subs.specs.Text.{split, spaced, modified, first_of, last_of}
 
@@ -59,9 +58,9 @@ abbrev pub removed : List ℕ → List ℕ → List ℕ
 removed steps order = in_turn take_out steps order
 
 -- "a part whose name is not in the list is passed over"
-abbrev pub by_name : (List ℕ → List ℕ → List ℕ) → Lookup → List ℕ → List ℕ
-by_name move (Found name) order = move (steps_of name) order
-by_name move Unknown order = order
+abbrev pub by_name : (List ℕ → List ℕ → List ℕ) → Option StepOrGroup → List ℕ → List ℕ
+by_name move (Some name) order = move (steps_of name) order
+by_name move looked_up.None order = order
 
 -- "under 4 bytes is skipped. Leading + inserts, else trailing + prepends, else leading − removes, else insert." (bytes 43, 45)
 unfoldable pub on_part : List ℕ → List ℕ → List ℕ

@@ -7,11 +7,11 @@ use Rattle.substitutions.specs.Kinds.{flagged}
 use Rattle.substitutions.specs.Moves.{set, empty_set}
 use Rattle.subs_names.specs.declared.StepOrGroup.{StepOrGroup}
 use Rattle.subs_names.specs.declared.StepOrGroup.TheVariants.{None, Normal, Verbatim, SpecialChars, Callouts, Quotes, Attributes, Replacements, Macros, PostReplacements}
-use Rattle.customize_subs.specs.declared.Strategy.{Strategy}
-use Rattle.customize_subs.specs.declared.Strategy.TheVariants.{Insert, Prepend, Remove}
+use Rattle.substitutions.specs.declared.Move.{Move}
+use Rattle.substitutions.specs.declared.Move.TheVariants.{Insert, Prepend, Remove}
 
 -- A move that leaves the set as it is: an insert of what is in it, a remove of what is not.
-abbrev pub is_no_op : Strategy → ℕ → Substitutions → Bool
+abbrev pub is_no_op : Move → ℕ → Substitutions → Bool
 is_no_op Insert k s = flagged k s.flags
 is_no_op Prepend k s = false
 is_no_op Remove k s = not (flagged k s.flags)

@@ -4,58 +4,50 @@
 mod parts;
 mod steps;
 
-ghost use Rattle.std.specs.Prelude.{◌≡◌, true, ◌≤◌, length};
+ghost use Rattle.std.specs.Prelude.{◌≡◌, true};
+ghost use Rattle.std.specs.Option.{option_copied};
 ghost use Rattle.substitutions.specs.Held.{held};
+ghost use Rattle.substitutions.specs.Moves.{answer_of};
 ghost use Rattle.customize_subs.specs.Text.{split};
-ghost use Rattle.customize_subs.specs.Customizing.{start_of, through, meta_refusal, meta_answer};
-ghost use Rattle.customize_subs.specs.Outcome.{PortOutcome, SheetOutcome};
+ghost use Rattle.customize_subs.specs.Customizing.{part_of, start_of, stepped, through};
+ghost use Rattle.customize_subs.specs.Outcome.{Makes};
 
-use crate::parts::{begins_modified, has_modifier, look_up_in, name_at, next_comma, part_at};
+use crate::parts::{begins_modified, cut, has_modifier, part_in, strategy_and_name};
 use crate::steps::enter;
-use subs_names::Lookup;
-use substitutions::{Mode, SetAnswer, Substitutions};
-
-// The move that a part asks for.
-#[derive(Clone, Copy)]
-enum Strategy {
-    Insert,
-    Prepend,
-    Remove,
-}
+use refusals::Refusal;
+use subs_names::look_up;
+use substitutions::{Mode, Substitutions};
 
 // Any + or - in the text: the set given, else the empty set.
+#[tactic(auto, unfolding(crate::specs::Customizing::start_of))]
 fn start_of(set: Substitutions, text: &[u8]) -> Substitutions
     ensures { result ≡ start_of set text.now }
 {
-    if begins_modified(text) {
-        return set;
+    if begins_modified(text) || has_modifier(text) {
+        set
+    } else {
+        substitutions::starting::none()
     }
-    if has_modifier(text) {
-        return set;
-    }
-    substitutions::starting::none()
 }
 
 // The parts of the text, one after the other.
 fn customize(mode: Mode, set: Substitutions, text: &[u8]) -> Substitutions
-    requires { (held set ≡ true) × (length text.now ≤ 65535) }
+    requires { held set ≡ true }
     ensures { result ≡ through mode set (split text.now) }
 {
     let mut next = set;
-    let mut start: usize = 0;
-    while start <= text.len() {
-        let from = start;
-        let end = next_comma(text, from);
-        start = end + 1;
-        let part = part_at(mode, text, from, end);
+    let mut rest = Some(text);
+    while let Some(from) = rest {
+        let (part, behind) = cut(from);
+        rest = behind;
+        let part = part_in(mode, part);
         // under 4 bytes is skipped
-        if part.end - part.start < 4 {
+        if part.len() < 4 {
             continue;
         }
-        let name = name_at(text, part.start, part.end);
-        let strategy = name.strategy;
+        let (strategy, name) = strategy_and_name(part);
         // a part whose name is not in the list is passed over
-        let Lookup::Found(step) = look_up_in(text, name.start, name.end) else {
+        let Some(step) = look_up(name) else {
             continue;
         };
         next = enter(mode, strategy, step, next);
@@ -63,45 +55,21 @@ fn customize(mode: Mode, set: Substitutions, text: &[u8]) -> Substitutions
     next
 }
 
-// 9 for a subs text over 65,535 bytes, then the refusals of the set, else 0.
-fn refusal(mode: Mode, set: Substitutions, present: bool, text: &[u8]) -> usize
-    ensures { result ≡ meta_refusal mode set present text.now }
+// The text is `None` where the block has no subs attribute. 9 for a subs text over 65,535 bytes, then the refusals of the set.
+pub fn from_meta(
+    mode: Mode,
+    set: Substitutions,
+    text: Option<&[u8]>,
+) -> Result<Substitutions, Refusal>
+    ensures { Makes mode set (option_copied text.entry) (answer_of set result) }
 {
-    if !present {
-        return substitutions::refusal(mode, set);
-    }
+    let Some(text) = text else {
+        set.check(mode)?;
+        return Ok(set);
+    };
     if text.len() > 65535 {
-        return refusals::SUBS_TEXT_TOO_LONG;
+        return Err(Refusal::SubsTextTooLong);
     }
-    substitutions::refusal(mode, set)
-}
-
-fn from_meta_in(mode: Mode, set: Substitutions, present: bool, text: &[u8]) -> SetAnswer
-    ensures { result ≡ meta_answer mode set present text.now }
-{
-    let n = refusal(mode, set, present, text);
-    if n != 0 {
-        return substitutions::refused(n, set);
-    }
-    if !present {
-        return SetAnswer { refusal: 0, set };
-    }
-    let begun = start_of(set, text);
-    SetAnswer {
-        refusal: 0,
-        set: customize(mode, begun, text),
-    }
-}
-
-// `present` is false where the block has no subs attribute; the text is then not looked at.
-pub fn from_meta(set: Substitutions, present: bool, text: &[u8]) -> SetAnswer
-    ensures { PortOutcome set present text.now result }
-{
-    from_meta_in(Mode::Port, set, present, text)
-}
-
-pub fn from_meta_sheet(set: Substitutions, present: bool, text: &[u8]) -> SetAnswer
-    ensures { SheetOutcome set present text.now result }
-{
-    from_meta_in(Mode::Sheet, set, present, text)
+    set.check(mode)?;
+    Ok(customize(mode, start_of(set, text), text))
 }

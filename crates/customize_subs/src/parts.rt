@@ -1,43 +1,29 @@
-// The parts of the text between commas, by their places.
-ghost use Rattle.std.specs.Prelude.{◌≡◌, ◌≤◌, ◌<◌, ◌+◌, ◌-◌, length, take, drop, get_or};
+// The parts of the text between commas, and what each asks for.
+ghost use Rattle.std.specs.Prelude.{◌≡◌, ◌<◌, length, ◌∷◌, eqb, position, get_or};
+ghost use Rattle.std.specs.Option.{option_copied};
 ghost use Rattle.substitutions.specs.Kinds.{one};
-ghost use Rattle.subs_names.specs.Names.{lookup_of};
-ghost use Rattle.customize_subs.specs.Text.{front, back, modified};
-ghost use Rattle.customize_subs.specs.Places.{to_comma, is_modifier, between, PartAt, NameAt};
+ghost use Rattle.customize_subs.specs.Text.{split, front, back, modified};
+ghost use Rattle.customize_subs.specs.Customizing.{part_of, strategy_of, name_of};
+ghost use Rattle.customize_subs.specs.Places.{is_modifier, parts_behind, Shorter};
 
-use crate::Strategy;
-use subs_names::{Lookup, look_up};
-use substitutions::Mode;
+use substitutions::{Mode, Move};
 
-// A part of the text: the bytes from `start` up to `end`.
-#[derive(Clone, Copy)]
-pub struct Span {
-    pub start: usize,
-    pub end: usize,
-}
-
-// The move that a part asks for, and where its name stands.
-#[derive(Clone, Copy)]
-pub struct Named {
-    pub strategy: Strategy,
-    pub start: usize,
-    pub end: usize,
-}
-
-// The place of the first comma from `from` on, or the end of the text.
-pub(crate) fn next_comma(text: &[u8], from: usize) -> usize
-    requires { from ≤ length text.now }
-    ensures value { result ≡ from + to_comma (drop from text.now) }
-    ensures within { (from ≤ result) × (result ≤ length text.now) }
+// The place of the first comma.
+fn comma(text: &[u8]) -> Option<usize>
+    ensures { result ≡ position (λ b. eqb b 44) text.now }
 {
-    let mut i = from;
-    while i < text.len() {
-        if text[i] == b',' {
-            return i;
-        }
-        i = i + 1;
+    text.iter().position(|b| *b == b',')
+}
+
+// The part before the first comma, and the text behind that comma, or the whole text and nothing.
+pub(crate) fn cut(text: &[u8]) -> (&[u8], Option<&[u8]>)
+    ensures parts { split text.now ≡ result.0.now ∷ parts_behind (option_copied result.1) }
+    ensures shorter { Shorter (option_copied result.1) text.now }
+{
+    match comma(text) {
+        Some(at) => (&text[..at], Some(&text[at + 1..])),
+        None => (text, None),
     }
-    i
 }
 
 // 1 for + and -, else 0.
@@ -45,8 +31,7 @@ fn modifier(b: u8) -> u8
     ensures { result ≡ one (is_modifier b) }
 {
     match b {
-        b'+' => 1,
-        b'-' => 1,
+        b'+' | b'-' => 1,
         _ => 0,
     }
 }
@@ -56,10 +41,8 @@ pub(crate) fn has_modifier(text: &[u8]) -> bool
     ensures { result ≡ modified text.now }
 {
     let mut found: u8 = 0;
-    let mut i: usize = 0;
-    while i < text.len() {
-        found = found | modifier(text[i]);
-        i = i + 1;
+    for b in text {
+        found = found | modifier(*b);
     }
     found == 1
 }
@@ -68,103 +51,54 @@ pub(crate) fn has_modifier(text: &[u8]) -> bool
 pub(crate) fn begins_modified(text: &[u8]) -> bool
     ensures { result ≡ is_modifier (get_or text.now 0 0) }
 {
-    if text.len() == 0 {
-        return false;
-    }
-    modifier(text[0]) == 1
+    matches!(text, [b, ..] if modifier(*b) == 1)
 }
 
-// The first place from `start` on that holds no space, or `end`.
-pub(crate) fn skip_spaces(text: &[u8], start: usize, end: usize) -> usize
-    requires { (start ≤ end) × (end ≤ length text.now) }
-    ensures text_value { between result end text.now ≡ front (between start end text.now) }
-    ensures within { (start ≤ result) × (result ≤ end) }
+// The part without the spaces in front of it.
+fn skip_spaces(part: &[u8]) -> &[u8]
+    ensures { result.now ≡ front part.now }
 {
-    let mut i = start;
-    while i < end {
-        if text[i] != b' ' {
-            return i;
-        }
-        i = i + 1;
+    let mut rest = part;
+    while let [b' ', behind @ ..] = rest {
+        rest = behind;
     }
-    i
+    rest
 }
 
-// The place after the last byte before `end` that is no space, or `start`.
-pub(crate) fn drop_spaces(text: &[u8], start: usize, end: usize) -> usize
-    requires { (start ≤ end) × (end ≤ length text.now) }
-    ensures text_value { between start result text.now ≡ back (between start end text.now) }
-    ensures within { (start ≤ result) × (result ≤ end) }
+// The part without the spaces at its end.
+fn drop_spaces(part: &[u8]) -> &[u8]
+    ensures { result.now ≡ back part.now }
 {
-    let mut i = end;
-    while start < i {
-        if text[i - 1] != b' ' {
-            return i;
-        }
-        i = i - 1;
+    let mut rest = part;
+    while let [before @ .., b' '] = rest {
+        rest = before;
     }
-    i
+    rest
 }
 
 // The part as the mode reads it: in sheet mode without the spaces at its ends.
-pub(crate) fn part_at(mode: Mode, text: &[u8], start: usize, end: usize) -> Span
-    requires { (start ≤ end) × (end ≤ length text.now) }
-    ensures part_at { PartAt mode start end text.now result }
-    ensures within { (result.start ≤ result.end) × (result.end ≤ end) }
+pub(crate) fn part_in(mode: Mode, part: &[u8]) -> &[u8]
+    ensures { result.now ≡ part_of mode part.now }
 {
     match mode {
-        Mode::Port => Span { start, end },
-        Mode::Sheet => {
-            let from = skip_spaces(text, start, end);
-            let to = drop_spaces(text, from, end);
-            Span {
-                start: from,
-                end: to,
-            }
-        }
+        Mode::Port => part,
+        Mode::Sheet => drop_spaces(skip_spaces(part)),
     }
 }
 
-// Leading + inserts, else trailing + prepends, else leading - removes, else insert.
-pub(crate) fn name_at(text: &[u8], start: usize, end: usize) -> Named
-    requires { (start < end) × (end ≤ length text.now) }
-    ensures name_at { NameAt start end text.now result }
-    ensures within { (result.start ≤ result.end) × (result.end ≤ end) }
+// Leading + inserts, else trailing + prepends, else leading - removes, else insert; the name is what is left. Slice patterns
+// (`[b'+', name @ ..]`) were tried: their tests run together, and the proof did not close.
+#[tactic(auto, unfolding(crate::specs::Customizing::strategy_of, crate::specs::Customizing::name_of))]
+pub(crate) fn strategy_and_name(part: &[u8]) -> (Move, &[u8])
+    requires { 0 < length part.now }
+    ensures strategy { result.0 ≡ strategy_of part.now }
+    ensures name { result.1.now ≡ name_of part.now }
 {
-    let first = text[start];
-    let last = text[end - 1];
-    if first == b'+' {
-        return Named {
-            strategy: Strategy::Insert,
-            start: start + 1,
-            end,
-        };
+    let last = part.len() - 1;
+    match (part[0], part[last]) {
+        (b'+', _) => (Move::Insert, &part[1..]),
+        (_, b'+') => (Move::Prepend, &part[..last]),
+        (b'-', _) => (Move::Remove, &part[1..]),
+        _ => (Move::Insert, part),
     }
-    if last == b'+' {
-        return Named {
-            strategy: Strategy::Prepend,
-            start,
-            end: end - 1,
-        };
-    }
-    if first == b'-' {
-        return Named {
-            strategy: Strategy::Remove,
-            start: start + 1,
-            end,
-        };
-    }
-    Named {
-        strategy: Strategy::Insert,
-        start,
-        end,
-    }
-}
-
-// The name that stands from `start` up to `end`.
-pub(crate) fn look_up_in(text: &[u8], start: usize, end: usize) -> Lookup
-    requires { (start ≤ end) × (end ≤ length text.now) }
-    ensures { result ≡ lookup_of (take (end - start) (drop start text.now)) }
-{
-    look_up(&text[start..end])
 }

@@ -1,5 +1,6 @@
 pub mod Count
 pub mod Delimit
+pub mod Noted
 pub mod Stored
 pub mod Pairs
 pub mod Divide

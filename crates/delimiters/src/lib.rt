@@ -2,15 +2,30 @@
 #![tactic(auto)]
 
 ghost use Rattle.std.specs.Prelude.{◌≤◌, length};
+ghost use Rattle.delimiters.specs.Noted.{AtQuote};
 ghost use Rattle.delimiters.specs.Outcome.{Outcome};
 
-use token::kind;
+use token::kind::TokenKind;
 
-// How many tokens are counted, and how many of their commas divide.
+// How many tokens are counted, and how many of their commas divide. A count and no slice of places: the buffer is the caller's, since there is no heap.
 #[derive(Clone, Copy)]
 pub struct Delimited {
     pub counted: usize,
     pub commas: usize,
+}
+
+// How many of the stretches are to remain after a quote. The first quote of a kind notes how many there are, and all remain; the second takes the note,
+// and no more than the first noted are to remain.
+fn at_quote(noted: &mut Option<usize>, stretches: usize) -> usize
+    ensures { AtQuote noted.old stretches noted.new result }
+{
+    match noted.take() {
+        None => {
+            *noted = Some(stretches);
+            stretches
+        }
+        Some(first) => first,
+    }
 }
 
 // Delimits a line by the kinds of its tokens, and leaves the places of the dividing commas, first to last, at the front of `commas`. The slice has
@@ -20,48 +35,33 @@ pub fn find_delimiters(kinds: &[u8], commas: &mut [u16]) -> Delimited
     ensures { Outcome kinds.now commas.old result commas.new }
 {
     let mut stretches: usize = 1;
-    // How many stretches the first quote of the kind noted; 0 while no quote of the kind waits for its second.
-    let mut double: usize = 0;
-    let mut single: usize = 0;
-    let mut i: usize = 0;
-    'tokens: while i + 1 < kinds.len() {
-        // How many stretches are to remain: all, but after a second quote as many as its first noted.
-        let mut remain = stretches;
-        match kinds[i] {
-            kind::CLOSE_BRACKET => break 'tokens,
-            kind::COMMA => {
+    // What the first quote of each kind noted, while it waits for its second.
+    let mut double: Option<usize> = None;
+    let mut single: Option<usize> = None;
+    let mut counted = kinds.len().saturating_sub(1);
+    'tokens: for i in 0..counted {
+        let remain = match TokenKind::try_from(kinds[i]) {
+            Ok(TokenKind::CloseBracket) => {
+                counted = i;
+                break 'tokens;
+            }
+            Ok(TokenKind::Comma) => {
                 commas[stretches - 1] = i as u16;
                 stretches += 1;
-                remain = stretches;
+                stretches
             }
-            kind::DOUBLE_QUOTE => {
-                if double == 0 {
-                    double = stretches;
-                } else {
-                    remain = double;
-                    double = 0;
-                }
-            }
-            kind::SINGLE_QUOTE => {
-                if single == 0 {
-                    single = stretches;
-                } else {
-                    remain = single;
-                    single = 0;
-                }
-            }
-            _ => {}
-        }
+            Ok(TokenKind::DoubleQuote) => at_quote(&mut double, stretches),
+            Ok(TokenKind::SingleQuote) => at_quote(&mut single, stretches),
+            _ => stretches,
+        };
         // Rejoin the last stretch to the one before it while more than those remain. A turn takes back a comma that was stored for a token of its own,
         // so over a whole line there are fewer turns than tokens (`rejoinings-few` of CommaLaws): the time is linear.
         while remain < stretches {
             stretches -= 1;
         }
-        i += 1;
     }
-    let between = stretches - 1;
     Delimited {
-        counted: i,
-        commas: between,
+        counted,
+        commas: stretches - 1,
     }
 }

@@ -1,35 +1,34 @@
-// The three moves on a set that is lent: the set is left altered, and the number of the refusal is returned. Each is a thin call of the move by value.
+// The three moves on a set that is lent: the set is left altered, and a refusal is returned. Each is a thin call of the move by value.
 #![tactic(auto)]
 
 ghost use Rattle.std.specs.Prelude.{◌≡◌};
+ghost use Rattle.refusals.specs.Numbered.{refusal_number};
 ghost use Rattle.substitutions.specs.Moves.{insert_answer, remove_answer, prepend_answer};
 
-use substitutions::{Mode, Subs, Substitutions, insert_in, prepend_in, remove_in};
+use refusals::Refusal;
+use substitutions::{Mode, Subs, Substitutions};
 
-// A set that is refused is left as it was.
-pub fn insert_into(set: &mut Substitutions, mode: Mode, sub: Subs) -> usize
-    ensures value { result ≡ (insert_answer mode set.old sub).refusal }
+// A set that is refused is left as it was. Three functions and none that is told the move: each is a line, and its contract names its own answer.
+pub fn insert_into(set: &mut Substitutions, mode: Mode, sub: Subs) -> Result<(), Refusal>
+    ensures value { refusal_number result ≡ (insert_answer mode set.old sub).refusal }
     ensures left { set.new ≡ (insert_answer mode set.old sub).set }
 {
-    let answer = insert_in(mode, *set, sub);
-    *set = answer.set;
-    answer.refusal
+    *set = set.insert(mode, sub)?;
+    Ok(())
 }
 
-pub fn remove_from(set: &mut Substitutions, mode: Mode, sub: Subs) -> usize
-    ensures value { result ≡ (remove_answer mode set.old sub).refusal }
+pub fn remove_from(set: &mut Substitutions, mode: Mode, sub: Subs) -> Result<(), Refusal>
+    ensures value { refusal_number result ≡ (remove_answer mode set.old sub).refusal }
     ensures left { set.new ≡ (remove_answer mode set.old sub).set }
 {
-    let answer = remove_in(mode, *set, sub);
-    *set = answer.set;
-    answer.refusal
+    *set = set.remove(mode, sub)?;
+    Ok(())
 }
 
-pub fn prepend_to(set: &mut Substitutions, mode: Mode, sub: Subs) -> usize
-    ensures value { result ≡ (prepend_answer mode set.old sub).refusal }
+pub fn prepend_to(set: &mut Substitutions, mode: Mode, sub: Subs) -> Result<(), Refusal>
+    ensures value { refusal_number result ≡ (prepend_answer mode set.old sub).refusal }
     ensures left { set.new ≡ (prepend_answer mode set.old sub).set }
 {
-    let answer = prepend_in(mode, *set, sub);
-    *set = answer.set;
-    answer.refusal
+    *set = set.prepend(mode, sub)?;
+    Ok(())
 }

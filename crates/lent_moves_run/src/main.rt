@@ -3,117 +3,82 @@
 #![tactic(auto)]
 
 ghost use Rattle.std.specs.Prelude.{◌≡◌, ◌≤◌};
-ghost use Rattle.substitutions.specs.Moves.{insert_answer, remove_answer, prepend_answer};
+ghost use Rattle.substitutions.specs.Moves.{answered};
 
 use lent_moves::{insert_into, prepend_to, remove_from};
+use refusals::number_or_0;
 use std::io;
-use substitutions::{
-    Mode, SetAnswer, Subs, Substitutions, insert, insert_sheet, is_held, prepend, prepend_sheet,
-    remove, remove_sheet,
-};
+use substitutions::{Mode, Move, SetAnswer, Subs, Substitutions};
 
 // How many sets are held, how many are refused because they are not, and how many answers differ.
-#[derive(Clone, Copy)]
+#[derive(Clone, Copy, Default)]
 struct Count {
     held: u64,
     refused: u64,
     differ: u64,
 }
 
-// A copy of the set is lent to the move, and handed back with the number that the move returns.
-fn insert_lent(mode: Mode, set: Substitutions, sub: Subs) -> SetAnswer
-    ensures { result ≡ insert_answer mode set sub }
+const KINDS: [Subs; 7] = [
+    Subs::SpecialChars,
+    Subs::InlineFormatting,
+    Subs::AttrRefs,
+    Subs::CharReplacement,
+    Subs::Macros,
+    Subs::PostReplacement,
+    Subs::Callouts,
+];
+
+fn by_value(how: Move, mode: Mode, set: Substitutions, sub: Subs) -> SetAnswer
+    ensures { result ≡ answered how mode set sub }
 {
-    let mut lent = set;
-    let refusal = insert_into(&mut lent, mode, sub);
-    SetAnswer { refusal, set: lent }
+    set.answer(set.make(how, mode, sub))
 }
 
-fn remove_lent(mode: Mode, set: Substitutions, sub: Subs) -> SetAnswer
-    ensures { result ≡ remove_answer mode set sub }
+// A copy of the set is lent to the move, and handed back with the number of the refusal that the move returns.
+fn on_loan(how: Move, mode: Mode, set: Substitutions, sub: Subs) -> SetAnswer
+    ensures { result ≡ answered how mode set sub }
 {
     let mut lent = set;
-    let refusal = remove_from(&mut lent, mode, sub);
-    SetAnswer { refusal, set: lent }
+    let outcome = match how {
+        Move::Insert => insert_into(&mut lent, mode, sub),
+        Move::Remove => remove_from(&mut lent, mode, sub),
+        Move::Prepend => prepend_to(&mut lent, mode, sub),
+    };
+    SetAnswer {
+        refusal: number_or_0(outcome),
+        set: lent,
+    }
 }
 
-fn prepend_lent(mode: Mode, set: Substitutions, sub: Subs) -> SetAnswer
-    ensures { result ≡ prepend_answer mode set sub }
-{
-    let mut lent = set;
-    let refusal = prepend_to(&mut lent, mode, sub);
-    SetAnswer { refusal, set: lent }
-}
-
-// 1 for two answers that differ, else 0.
-fn differs(a: SetAnswer, b: SetAnswer) -> u64
+// 1 where the two answers differ, else 0. A number and no bool: the answers that differ are added up.
+fn differs(how: Move, mode: Mode, set: Substitutions, sub: Subs) -> u64
     ensures { result ≤ 1 }
 {
-    if a.refusal != b.refusal {
-        return 1;
-    }
-    let s = a.set;
-    let t = b.set;
-    if s.flags != t.flags {
-        return 1;
-    }
-    let p = s.places;
-    let q = t.places;
-    let mut i: usize = 0;
-    while i < 7 {
-        if p[i] != q[i] {
-            return 1;
-        }
-        i = i + 1;
-    }
-    0
+    u64::from(by_value(how, mode, set, sub) != on_loan(how, mode, set, sub))
 }
 
-fn kind_of(n: u64) -> Subs {
-    match n {
-        0 => Subs::SpecialChars,
-        1 => Subs::InlineFormatting,
-        2 => Subs::AttrRefs,
-        3 => Subs::CharReplacement,
-        4 => Subs::Macros,
-        5 => Subs::PostReplacement,
-        _ => Subs::Callouts,
-    }
-}
-
-// The three moves with one kind, in port mode.
-fn over_port(set: Substitutions, sub: Subs) -> u64
+// The three moves with one kind.
+fn over_mode(mode: Mode, set: Substitutions, sub: Subs) -> u64
     ensures { result ≤ 3 }
 {
-    differs(insert(set, sub), insert_lent(Mode::Port, set, sub))
-        + differs(remove(set, sub), remove_lent(Mode::Port, set, sub))
-        + differs(prepend(set, sub), prepend_lent(Mode::Port, set, sub))
-}
-
-// The same in sheet mode.
-fn over_sheet(set: Substitutions, sub: Subs) -> u64
-    ensures { result ≤ 3 }
-{
-    differs(insert_sheet(set, sub), insert_lent(Mode::Sheet, set, sub))
-        + differs(remove_sheet(set, sub), remove_lent(Mode::Sheet, set, sub))
-        + differs(prepend_sheet(set, sub), prepend_lent(Mode::Sheet, set, sub))
+    differs(Move::Insert, mode, set, sub)
+        + differs(Move::Remove, mode, set, sub)
+        + differs(Move::Prepend, mode, set, sub)
 }
 
 // The same in both modes.
 fn over_kind(set: Substitutions, sub: Subs) -> u64
     ensures { result ≤ 6 }
 {
-    over_port(set, sub) + over_sheet(set, sub)
+    over_mode(Mode::Port, set, sub) + over_mode(Mode::Sheet, set, sub)
 }
 
 fn over_kinds(set: Substitutions) -> u64
     ensures { result ≤ 42 }
 {
-    let mut differ: u64 = 0;
-    let mut n: u64 = 0;
-    while n < 7 {
-        differ = differ + over_kind(set, kind_of(n));
-        n = n + 1;
+    let mut differ = 0;
+    for sub in KINDS {
+        differ += over_kind(set, sub);
     }
     differ
 }
@@ -122,65 +87,44 @@ fn over_kinds(set: Substitutions) -> u64
 fn over_flags(places: [u8; 7]) -> Count
     ensures { (result.held ≤ 256) × ((result.refused ≤ 256) × (result.differ ≤ 10752)) }
 {
-    let mut held: u64 = 0;
-    let mut refused: u64 = 0;
-    let mut differ: u64 = 0;
-    let mut n: u64 = 0;
-    while n < 256 {
+    let mut count = Count::default();
+    for n in 0..256usize {
         let flags = n as u8;
-        n = n + 1;
         let set = Substitutions { places, flags };
-        if is_held(set) {
-            held = held + 1;
-            differ = differ + over_kinds(set);
-            continue;
+        if set.is_held() {
+            count.held += 1;
+            count.differ += over_kinds(set);
+        } else {
+            count.refused += 1;
+            count.differ += over_kind(set, KINDS[(n + 1) % 7]);
         }
-        refused = refused + 1;
-        differ = differ + over_kind(set, kind_of(n % 7));
     }
-    Count {
-        held,
-        refused,
-        differ,
-    }
+    count
 }
 
+// The flag of the kind in a place, 0 for a place that holds none.
 fn flag_of(place: u8) -> u64
     ensures { result ≤ 64 }
 {
-    match place {
-        1 => 1,
-        2 => 2,
-        3 => 4,
-        4 => 8,
-        5 => 16,
-        6 => 32,
-        7 => 64,
-        _ => 0,
-    }
+    Subs::try_from(place).map_or(0, |sub| u64::from(sub.flag()))
 }
 
 // The flags of the places, if no kind has two places.
 fn flags_of(places: [u8; 7]) -> u8 {
-    let p = places;
     let mut flags: u64 = 0;
-    let mut i: usize = 0;
-    while i < 7 {
-        flags = flags + flag_of(p[i]);
-        i = i + 1;
+    for place in places {
+        flags += flag_of(place);
     }
     (flags % 256) as u8
 }
 
 // The places whose digits to the base 9 are the number's.
-fn places_of(number: u64) -> [u8; 7] {
+fn places_of(number: usize) -> [u8; 7] {
     let mut places = [0u8; 7];
     let mut rest = number;
-    let mut i: usize = 0;
-    while i < 7 {
-        places[i] = (rest % 9) as u8;
-        rest = rest / 9;
-        i = i + 1;
+    for place in &mut places {
+        *place = (rest % 9) as u8;
+        rest /= 9;
     }
     places
 }
@@ -190,42 +134,31 @@ fn places_of(number: u64) -> [u8; 7] {
 fn over_places() -> Count
     ensures { (result.held ≤ 1224440064) × (result.refused ≤ 1224440064) }
 {
-    let mut held: u64 = 0;
-    let mut refused: u64 = 0;
-    let mut differ: u64 = 0;
-    let mut number: u64 = 0;
-    while number < 4782969 {
+    let mut count = Count::default();
+    for number in 0..4782969usize {
         let places = places_of(number);
-        number = number + 1;
         let flags = flags_of(places);
         let set = Substitutions { places, flags };
-        if is_held(set) {
-            let count = over_flags(places);
-            held = held + count.held;
-            refused = refused + count.refused;
-            differ = differ + count.differ;
-            continue;
+        if set.is_held() {
+            let more = over_flags(places);
+            count.held += more.held;
+            count.refused += more.refused;
+            count.differ += more.differ;
+        } else {
+            count.refused += 1;
+            count.differ += over_kind(set, KINDS[(number + 1) % 7]);
         }
-        refused = refused + 1;
-        differ = differ + over_kind(set, kind_of(number % 7));
     }
-    Count {
-        held,
-        refused,
-        differ,
-    }
+    count
 }
 
 fn main(rt: HostRuntime) -> io::Result<()> {
-    let count = over_places();
-    rt.print(count.held)?;
-    rt.write_all(b" held sets, ")?;
-    rt.print(count.held * 42)?;
-    rt.write_all(b" moves; ")?;
-    rt.print(count.refused)?;
-    rt.write_all(b" sets that are not held, ")?;
-    rt.print(count.refused * 6)?;
-    rt.write_all(b" moves; by value and on loan, ")?;
-    rt.print(count.differ)?;
-    rt.write_all(b" differ\n")
+    let Count {
+        held,
+        refused,
+        differ,
+    } = over_places();
+    print!(rt; "{held} held sets, {} moves; ", held * 42)?;
+    print!(rt; "{refused} sets that are not held, {} moves; ", refused * 6)?;
+    println!(rt; "by value and on loan, {differ} differ")
 }

@@ -3,16 +3,16 @@ use Prim.Native.Nat.{ℕ, suc, ◌+◌, ◌*◌, ◌-◌, ◌≤◌, ◌<◌}
 use native.Mathlib.Omega.{arith}
 use borrow.Author.Tests.{eqb-true}
 use mathlib.Core.Bool.{Bool, true, false, ◌&&◌, false≢true}
-use mathlib.Core.Path.{◌≡◌, refl, sym, ap, subst, ◌∙◌}
+use mathlib.Core.Path.{◌≡◌, refl, sym, ap, ◌∙◌}
 use mathlib.Core.List.{List, [], ◌∷◌}
 use lib.Dec.{eqb}
-use lib.ListN.{length, get_or, take}
-use lib.Seq.{get_or-take, length-take-le}
+use lib.ListN.{length, get_or}
 use Rattle.token.specs.Kind.{word}
 use Rattle.token.specs.Line.{Line, token_at, lexeme_at, run, empty_run}
 use Rattle.runs.specs.Run.{kept, run_of, last_of, trim, trim_start, trim_end, leave, quoted, unquote}
 use Rattle.runs.proofs.KeptLaws.{kept-none, kept-one}
 use Rattle.row.specs.declared.Row.{Row}
+use Rattle.row.specs.declared.tag.Tag.TheVariants as tag
 use Rattle.row.specs.Row.{width, one_run, empty_positional, positional, Wrote}
 use Rattle.delimiters.specs.Delimit.{parted}
 use Rattle.put_rows.specs.declared.Written.{Written}
@@ -39,7 +39,7 @@ none_read : (block has : Bool) → attribute block has [] ≡ one_row has empty_
 unfolding reading trim trim_start trim_end
 none_read block has = again block has []
 
-pub none_row : (block has : Bool) (l : Line) (from to : ℕ) → from ≡ to → (row : Row) → row ≡ one_run 1 empty_run → one_row has row ≡ attribute block has (kept l from to)
+pub none_row : (block has : Bool) (l : Line) (from to : ℕ) → from ≡ to → (row : Row) → row ≡ one_run tag.EmptyPositional empty_run → one_row has row ≡ attribute block has (kept l from to)
 none_row block has l from to e row is = ap (one_row has) is ∙ sym (ap (attribute block has) (kept-none l from to (omega (arith, e))) ∙ none_read block has)
 
 word_read : (block has : Bool) (p : ℕ) (bs : List ℕ) → attribute block has (record { place = p; kind = word; lexeme = bs } ∷ []) ≡ one_row has (positional (run p (suc (p - p))))
@@ -54,7 +54,7 @@ both_true : (a b : Bool) → a && b ≡ true → (a ≡ true) × (b ≡ true)
 both_true true b e = (refl, e)
 both_true false b e = absurd (false≢true e)
 
-pub word_row : (block has : Bool) (l : Line) (from to : ℕ) → (eqb to (from + 1) && eqb (get_or l.kinds from 0) word) ≡ true → (row : Row) → row ≡ one_run 2 (run from 1) → one_row has row ≡ attribute block has (kept l from to)
+pub word_row : (block has : Bool) (l : Line) (from to : ℕ) → (eqb to (from + 1) && eqb (get_or l.kinds from 0) word) ≡ true → (row : Row) → row ≡ one_run tag.Positional (run from 1) → one_row has row ≡ attribute block has (kept l from to)
 word_row block has l from to t row is =
     let w = both_true (eqb to (from + 1)) (eqb (get_or l.kinds from 0) word) t in
     let one : suc (from - from) ≡ 1 = omega arith in
@@ -68,37 +68,26 @@ word_row block has l from to t row is =
 
 -- ---- the loop
 
-module _ (l : Line) (commas : List ℕ) (n end : ℕ) (block : Bool) (base : List ℕ) (enough : n ≤ length commas) where
-  comma-is : (j c : ℕ) → j < n → c ≡ get_or commas j 0 → get_or (take n commas) j 0 ≡ c
-  comma-is j c h e = get_or-take n commas j 0 h ∙ sym e
+module _ (l : Line) (commas : List ℕ) (end : ℕ) (block : Bool) (base cur : List ℕ) (from at : ℕ) (id : Bool) (j : ℕ) (w : Listing l commas end block base cur from at id j) where
+  -- what the reading of an attribute asks
+  pub comma-room : (c : ℕ) → c ≡ get_or commas j 0 → j < length commas → width * (end + 1) ≤ length base → (from ≤ c) × (c < end) × (width * (at + (c - from) + 1) ≤ length cur)
+  comma-room c e h room =
+      let v = listing-comma l commas end block base cur from at id j w h in
+      rw e (v.0, v.1, omega (arith, v.0, v.1, w.few, w.writes.long, room))
 
-  among : (j : ℕ) → j < n → j < length (take n commas)
-  among j h = omega (arith, length-take-le n commas enough)
+  pub end-room : width * (end + 1) ≤ length base → (from ≤ end) × (width * (at + (end - from) + 1) ≤ length cur)
+  end-room room =
+      let v = listing-end l commas end block base cur from at id j w in
+      (v, omega (arith, v, w.few, w.writes.long, room))
 
-  module _ (cur : List ℕ) (from at : ℕ) (id : Bool) (j : ℕ) (w : Listing l (take n commas) end block base cur from at id j) (tokens : ℕ) (within : end ≤ tokens) (room : width * (end + 1) ≤ length base) where
-    -- what the reading of an attribute asks
-    pub comma-room : (c : ℕ) → j < n → c ≡ get_or commas j 0 → (from ≤ c) × (c ≤ tokens) × (width * (at + (c - from) + 1) ≤ length cur)
-    comma-room c h e =
-        let v = subst (λ (x : ℕ). (from ≤ x) × (x < end)) (comma-is j c h e) (listing-comma l (take n commas) end block base cur from at id j w (among j h)) in
-        (v.0, omega (arith, v.1), omega (arith, v.0, v.1, w.few, w.writes.long))
+  pub next : (c : ℕ) → c ≡ get_or commas j 0 → j < length commas → (r : Written) (after : List ℕ) → Attributed l from c block id cur at r after → Listing l commas end block base after (c + 1) r.rows r.id (j + 1)
+  next c e h r after v =
+      let few : r.rows ≤ at + (get_or commas j 0 - from) + 1 = omega (arith, e, v.few) in
+      rw e (listing-next l commas end block base cur from at id j w h after r.rows r.id (attribute block id (kept l from c)) (ap (λ (x : ℕ). attribute block id (kept l from x)) e)
+      (record { count = ap (λ (x : Written). x.rows) v.answer; buffer = v.buffer })
+      (ap (λ (x : Written). x.id) v.answer) few)
 
-    pub end-room : (from ≤ end) × (end ≤ tokens) × (width * (at + (end - from) + 1) ≤ length cur)
-    end-room =
-        let v = listing-end l (take n commas) end block base cur from at id j w in
-        (v, within, omega (arith, v, w.few, w.writes.long))
-
-  module _ (cur : List ℕ) (from at : ℕ) (id : Bool) (j : ℕ) (w : Listing l (take n commas) end block base cur from at id j) where
-    pub next : (c : ℕ) → j < n → c ≡ get_or commas j 0 → (r : Written) (after : List ℕ) → Attributed l from c block id cur at r after → Listing l (take n commas) end block base after (c + 1) r.rows r.id (j + 1)
-    next c h e r after v =
-        let s : get_or (take n commas) j 0 ≡ c = comma-is j c h e in
-        let few : r.rows ≤ at + (get_or (take n commas) j 0 - from) + 1 = omega (arith, s, v.few) in
-        subst (λ (x : ℕ). Listing l (take n commas) end block base after (x + 1) r.rows r.id (j + 1)) s
-        (listing-next l (take n commas) end block base cur from at id j w (among j h) after r.rows r.id (attribute block id (kept l from c))
-        (ap (λ (x : ℕ). attribute block id (kept l from x)) (sym s))
-        (record { count = ap (λ (x : Written). x.rows) v.answer; buffer = v.buffer })
-        (ap (λ (x : Written). x.id) v.answer) few)
-
-    pub last : n ≤ j → (r : Written) (after : List ℕ) → Attributed l from end block id cur at r after → Wrote base 0 (rows_from l block false (parted 0 (take n commas) end)).rows after r.rows
-    last h r after v =
-        listing-last l (take n commas) end block base cur from at id j w (omega (arith, length-take-le n commas enough)) after r.rows (attribute block id (kept l from end)) refl
-        (record { count = ap (λ (x : Written). x.rows) v.answer; buffer = v.buffer })
+  pub last : length commas ≤ j → (r : Written) (after : List ℕ) → Attributed l from end block id cur at r after → Wrote base 0 (rows_from l block false (parted 0 commas end)).rows after r.rows
+  last h r after v =
+      listing-last l commas end block base cur from at id j w h after r.rows (attribute block id (kept l from end)) refl
+      (record { count = ap (λ (x : Written). x.rows) v.answer; buffer = v.buffer })

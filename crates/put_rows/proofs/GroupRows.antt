@@ -1,7 +1,7 @@
 -- Rows of groups and ids, and the search for the next symbol.
 use Prim.Native.Nat.{ℕ, ◌+◌, ◌*◌, ◌-◌, ◌≤◌, ◌<◌}
 use native.Mathlib.Omega.{arith}
-use mathlib.Core.Bool.{Bool, true, false}
+use mathlib.Core.Bool.{Bool, true, false, ◌||◌}
 use mathlib.Core.Path.{◌≡◌, refl, sym, ap, subst, ◌∙◌}
 use mathlib.Core.List.{List, [], ◌∷◌}
 use lib.Dec.{eqb}
@@ -10,16 +10,17 @@ use lib.Seq.{sets}
 use borrow.Author.Tests.{eq-eqb, ne_eqb, eqb-true, eqb-false}
 use Rattle.token.specs.declared.Run.{Run}
 use Rattle.token.specs.Kind.{attr_ref, dots, hash, percent}
-use Rattle.token.specs.Line.{Line, Token, line_of, token_at}
+use Rattle.token.specs.Line.{Token, line_of, token_at}
 use Rattle.runs.specs.Run.{kept, of_kind, of_one, trim, run_of, onward}
 use Rattle.runs.proofs.KeptLaws.{none-start, none-skip, none_more, found_here, found_none}
 use Rattle.runs.specs.Places.{FoundAt}
 use Rattle.runs.proofs.NamesLaws.{kind-of}
 use Rattle.row.specs.declared.Row.{Row}
-use Rattle.row.specs.Row.{width, numbers, one_run, diagnostic, ident, with_rows, Wrote}
+use Rattle.row.specs.declared.tag.Tag.{Tag}
+use Rattle.row.specs.Row.{width, numbers, one_run, diagnostic, ident, Wrote}
 use Rattle.row.proofs.Laws.{Writes, writes_start, writes-part, writes-wrote, wrote_none, wrote_one}
 use Rattle.put_rows.specs.declared.Written.{Written}
-use Rattle.put_rows.specs.Rows.{Read, one_row, is_stop, run_rows, unless_empty, groups, group_rows, id_run}
+use Rattle.put_rows.specs.Rows.{Read, one_row, is_stop, unless_empty, groups, group_rows, id_run}
 use Rattle.put_rows.specs.Written.{WroteId, StopsAt}
 use Rattle.put_rows.proofs.Lists.{groups-next, groups-last, group_rows-first, unless-none, run-count}
 
@@ -31,9 +32,6 @@ wrote-row before at row id after e = rw e (record { wrote = wrote_one before at 
 pub wrote-same : (before : List ℕ) (at : ℕ) (a b : Read) (after : List ℕ) (r : Written) → a ≡ b → WroteId before at a after r → WroteId before at b after r
 wrote-same before at a b after r e w = subst (λ (x : Read). WroteId before at x after r) e w
 
-pub positional-row : (before : List ℕ) (at : ℕ) (after : List ℕ) (l : Line) (from to : ℕ) (run : Run) (row : Row) → run ≡ run_of (kept l from to) → row ≡ one_run 2 run → after ≡ sets before (width * at) (numbers row) → after ≡ with_rows before at (run_rows l from to)
-positional-row before at after l from to run row e f g = g ∙ rw (f, e) (wrote_one before at (one_run 2 (run_of (kept l from to)))).buffer
-
 -- ---- one group
 
 run-some : (ts : List Token) → ((run_of ts).count ≡ 0 → ⊥) → (f : Run → Row) → unless_empty f ts [] ≡ f (run_of ts) ∷ []
@@ -41,28 +39,28 @@ unfolding run_of
 run-some [] e f = absurd (e refl)
 run-some (t ∷ ts) e f = refl
 
-module _ (kinds : List ℕ) (from to : ℕ) (r : Run) (e : (text pairs : List ℕ) → r ≡ run_of (trim (kept (line_of kinds text pairs) from to))) (tag : ℕ) (buffer : List ℕ) (at : ℕ) where
+module _ (kinds : List ℕ) (from to : ℕ) (r : Run) (e : (text pairs : List ℕ) → r ≡ run_of (trim (kept (line_of kinds text pairs) from to))) (tag : Tag) (buffer : List ℕ) (at : ℕ) where
   pub group-none : r.count ≡ 0 → (text pairs : List ℕ) → Wrote buffer at (unless_empty (one_run tag) (trim (kept (line_of kinds text pairs) from to)) []) buffer at
   group-none h text pairs =
       let ts = trim (kept (line_of kinds text pairs) from to) in
       rw (unless-none (one_run tag) ts (run-count ts (ap (λ (x : Run). x.count) (sym (e text pairs)) ∙ h))) (wrote_none buffer at)
 
-  pub group-some : (r.count ≡ 0 → ⊥) → (row : Row) → row ≡ one_run tag r → (after : List ℕ) → after ≡ sets buffer (width * at) (numbers row) → (text pairs : List ℕ) → Wrote buffer at (unless_empty (one_run tag) (trim (kept (line_of kinds text pairs) from to)) []) after (at + 1)
-  group-some h row f after g text pairs =
+  pub group-some : (r.count ≡ 0 → ⊥) → (row : Row) → row ≡ one_run tag r → (has : Bool) (after : List ℕ) (q : Written) → WroteId buffer at (one_row has row) after q → (text pairs : List ℕ) → Wrote buffer at (unless_empty (one_run tag) (trim (kept (line_of kinds text pairs) from to)) []) after q.rows
+  group-some h row f has after q w text pairs =
       let ts = trim (kept (line_of kinds text pairs) from to) in
       let one = run-some ts (λ z. h (ap (λ (x : Run). x.count) (e text pairs) ∙ z)) (one_run tag) in
-      rw (one, ← e text pairs, g, f) (wrote_one buffer at (one_run tag r))
+      rw (one, ← e text pairs, ← f) w.wrote
 
 -- ---- the groups, first to last
 
-pub record Grouping (kinds : List ℕ) (kind tag from to : ℕ) (base : List ℕ) (at i : ℕ) (cur : List ℕ) (n : ℕ) : Type 0 where
+pub record Grouping (kinds : List ℕ) (kind : ℕ) (tag : Tag) (from to : ℕ) (base : List ℕ) (at i : ℕ) (cur : List ℕ) (n : ℕ) : Type 0 where
   pub low : from ≤ i
   pub high : i ≤ to
   pub few : n ≤ at + (i - from)
   pub long : length cur ≡ length base
   pub writes : (text pairs : List ℕ) → Writes base at (group_rows (one_run tag) (groups (of_kind kind) (kept (line_of kinds text pairs) from to))) cur n (group_rows (one_run tag) (groups (of_kind kind) (kept (line_of kinds text pairs) i to)))
 
-module _ (kinds : List ℕ) (kind tag from to : ℕ) (base : List ℕ) (at : ℕ) where
+module _ (kinds : List ℕ) (kind : ℕ) (tag : Tag) (from to : ℕ) (base : List ℕ) (at : ℕ) where
   pub grouping-start : from ≤ to → Grouping kinds kind tag from to base at from base at
   grouping-start h = record { low = omega arith; high = h; few = omega arith; long = refl; writes = λ text pairs. writes_start base at (group_rows (one_run tag) (groups (of_kind kind) (kept (line_of kinds text pairs) from to))) }
 
@@ -100,9 +98,9 @@ module _ (has : Bool) (run : Run) where
   id-empty z = sym (rw (eq-eqb run.count 0 z))
 
   module _ (n : run.count ≡ 0 → ⊥) where
-    pub id-again : has ≡ true → one_row true (diagnostic run.place.0 4) ≡ id_run has run
+    pub id-again : has ≡ true → one_row has (diagnostic run.place.0 4) ≡ id_run has run
     unfolding id_run
-    id-again h = sym (rw (ne_eqb run.count 0 n, h))
+    id-again h = rw (ne_eqb run.count 0 n, h)
 
     pub id-new : has ≡ false → one_row true (ident run) ≡ id_run has run
     unfolding id_run
@@ -114,14 +112,15 @@ module _ (t : Token) where
   pub stop-hash : t.kind ≡ hash → true ≡ is_stop t
   stop-hash e = sym (rw e)
 
-  pub stop-percent : t.kind ≡ percent → true ≡ is_stop t
-  stop-percent e = sym (rw e)
-
   pub stop-dots : t.kind ≡ dots → (b : Bool) → of_one t ≡ b → b ≡ is_stop t
   stop-dots e b f = sym (rw (e, f))
 
-  pub stop-not : (t.kind ≡ hash → ⊥) → (t.kind ≡ percent → ⊥) → (t.kind ≡ dots → ⊥) → false ≡ is_stop t
-  stop-not a b c = sym (rw (ne_eqb t.kind hash a, ne_eqb t.kind percent b, ne_eqb t.kind dots c))
+  pub stop-percent : (t.kind ≡ dots → ⊥) → (t.kind ≡ hash → ⊥) → eqb t.kind percent ≡ is_stop t
+  stop-percent a b = rw (ne_eqb t.kind hash b, ne_eqb t.kind dots a) (go (eqb t.kind percent))
+    where
+      go : (b : Bool) → b ≡ (b || false)
+      go true = refl
+      go false = refl
 
 pub record Stopping (kinds text pairs : List ℕ) (from to i : ℕ) : Type 0 where
   pub low : from ≤ i

@@ -1,25 +1,59 @@
 -- The loop over the pieces of a shorthand.
 use Prim.Native.Nat.{ℕ, ◌+◌, ◌*◌, ◌-◌, ◌≤◌, ◌<◌}
 use native.Mathlib.Omega.{arith}
-use mathlib.Core.Bool.{Bool, true, false, cond, ◌&&◌, ◌||◌}
+use mathlib.Core.Bool.{Bool, true, false, ◌&&◌, ◌||◌}
 use mathlib.Core.Path.{◌≡◌, refl, sym, ap, subst, ◌∙◌}
 use mathlib.Core.List.{List, [], ◌∷◌}
 use lib.Dec.{eqb}
 use lib.ListN.{length, get_or}
 use lib.Seq.{sets, length-sets}
+use borrow.Author.Tests.{eq-eqb, ne_eqb}
 use Rattle.token.specs.declared.Run.{Run}
 use Rattle.token.specs.Kind.{hash, percent}
 use Rattle.token.specs.Line.{line_of, token_at}
-use Rattle.runs.specs.Run.{kept, is_hash, is_percent, run_of}
+use Rattle.runs.specs.Run.{kept, is_hash, run_of}
 use Rattle.runs.proofs.KeptLaws.{kind-is, kept-none}
 use Rattle.runs.specs.Places.{all, StartsAt}
 use Rattle.row.specs.declared.Row.{Row}
+use Rattle.row.specs.declared.tag.Tag.{Tag}
 use Rattle.row.specs.Row.{width, numbers, one_run, diagnostic}
 use Rattle.row.proofs.Laws.{Writes, writes_start, writes-put, writes-part, writes-wrote}
 use Rattle.put_rows.specs.declared.Written.{Written}
-use Rattle.put_rows.specs.Rows.{Read, one_row, row_first, pieces, shorthand_read}
+use Rattle.put_rows.specs.Rows.{Read, one_row, row_first, symbol_tag, pieces, shorthand_read}
 use Rattle.put_rows.specs.Written.{WroteId, StopsAt, StopFirst}
 use Rattle.put_rows.proofs.Lists.{short-last, short-second, short-more, short_none}
+
+-- ---- whether a Hash is the list's second id, and whether the list then has one, by the symbol's kind
+
+module _ (kind : ℕ) (id : Bool) where
+  pub second-id : kind ≡ hash → id ≡ true → (eqb kind hash && id) ≡ true
+  second-id e f = rw (eq-eqb kind hash e, f)
+
+  pub no-hash : (kind ≡ hash → ⊥) → (eqb kind hash && id) ≡ false
+  no-hash n = rw (ne_eqb kind hash n)
+
+  pub first-id : id ≡ false → (eqb kind hash && id) ≡ false
+  first-id f = rw f (go (eqb kind hash))
+    where
+      go : (b : Bool) → (b && false) ≡ false
+      go true = refl
+      go false = refl
+
+  pub has-id : id ≡ true → id ≡ (eqb kind hash || id)
+  has-id f = rw f (go (eqb kind hash))
+    where
+      go : (b : Bool) → true ≡ (b || true)
+      go true = refl
+      go false = refl
+
+  pub hash-id : id ≡ false → eqb kind hash ≡ (eqb kind hash || id)
+  hash-id f = rw f (go (eqb kind hash))
+    where
+      go : (b : Bool) → b ≡ (b || false)
+      go true = refl
+      go false = refl
+
+-- ---- the loop
 
 pub record Shorting (kinds text pairs : List ℕ) (from to : ℕ) (has : Bool) (base : List ℕ) (at i : ℕ) (cur : List ℕ) (n : ℕ) (id : Bool) : Type 0 where
   pub low : from ≤ i
@@ -53,19 +87,19 @@ module _ (kinds text pairs : List ℕ) (from to : ℕ) (has : Bool) (base : List
       pub shorting-last : to ≤ start → (after : List ℕ) (q : Written) → WroteId cur n (one_row id (diagnostic i 1)) after q → WroteId base at (shorthand_read has (pieces (kept (line_of kinds text pairs) from to))) after q
       shorting-last g after q = ends_by (diagnostic i 1) after q (short-last (line_of kinds text pairs) i to start h (w.symbol.first h) (w.symbol.stop h) (v.part.same text pairs) id g)
 
-      module _ (g : start < to) (hashed : Bool) (k : hashed ≡ eqb (get_or kinds i 0) hash) where
-        hashes : hashed ≡ is_hash (token_at (line_of kinds text pairs) i)
-        hashes = k ∙ sym (kind-is (line_of kinds text pairs) i hash)
+      module _ (g : start < to) where
+        hashes : eqb (get_or kinds i 0) hash ≡ is_hash (token_at (line_of kinds text pairs) i)
+        hashes = sym (kind-is (line_of kinds text pairs) i hash)
 
-        pub shorting-second : (hashed && id) ≡ true → (after : List ℕ) (q : Written) → WroteId cur n (one_row id (diagnostic i 4)) after q → WroteId base at (shorthand_read has (pieces (kept (line_of kinds text pairs) from to))) after q
+        pub shorting-second : (eqb (get_or kinds i 0) hash && id) ≡ true → (after : List ℕ) (q : Written) → WroteId cur n (one_row id (diagnostic i 4)) after q → WroteId base at (shorthand_read has (pieces (kept (line_of kinds text pairs) from to))) after q
         shorting-second z after q =
             ends_by (diagnostic i 4) after q (short-second (line_of kinds text pairs) i to start h (w.symbol.first h) (w.symbol.stop h) (v.part.same text pairs) id g (v.first g) (ap (λ (b : Bool). b && id) (sym hashes) ∙ z))
 
-        pub shorting-next : (hashed && id) ≡ false → (m : ℕ) → StopsAt kinds text pairs start to m → (run : Run) → run ≡ run_of (kept (line_of kinds text pairs) start m) → (tag : ℕ) → tag ≡ cond (eqb (get_or kinds i 0) hash) 4 (cond (eqb (get_or kinds i 0) percent) 6 5)
-            → (row : Row) → row ≡ one_run tag run → (after : List ℕ) → after ≡ sets cur (width * n) (numbers row) → (id' : Bool) → id' ≡ (hashed || id) → Shorting kinds text pairs from to has base at m after (n + 1) id'
+        pub shorting-next : (eqb (get_or kinds i 0) hash && id) ≡ false → (m : ℕ) → StopsAt kinds text pairs start to m → (run : Run) → run ≡ run_of (kept (line_of kinds text pairs) start m) → (tag : Tag) → tag ≡ symbol_tag (get_or kinds i 0)
+            → (row : Row) → row ≡ one_run tag run → (after : List ℕ) → after ≡ sets cur (width * n) (numbers row) → (id' : Bool) → id' ≡ (eqb (get_or kinds i 0) hash || id) → Shorting kinds text pairs from to has base at m after (n + 1) id'
         shorting-next z m s run e tag f row t after q id' p =
             let l = line_of kinds text pairs in
-            let tags : cond (is_hash (token_at l i)) 4 (cond (is_percent (token_at l i)) 6 5) ≡ tag = rw (kind-is l i hash, kind-is l i percent) (sym f) in
+            let tags : symbol_tag (token_at l i).kind ≡ tag = rw (kind-is l i hash, kind-is l i percent) (sym f) in
             let ids : (is_hash (token_at l i) || id) ≡ id' = ap (λ (b : Bool). b || id) (sym hashes) ∙ sym p in
             let d = left_is (row_first (one_run tag run) (shorthand_read id' (pieces (kept l m to))))
             (short-more l i to start h (w.symbol.first h) (w.symbol.stop h) (v.part.same text pairs) id g (v.first g) (ap (λ (b : Bool). b && id) (sym hashes) ∙ z) m s.low s.high s.found

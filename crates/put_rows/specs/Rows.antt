@@ -1,9 +1,12 @@
 -- The rows of what an attribute holds (document 01, "One attribute"): shorthand, groups, ids, positionals.
 use Rattle.std.specs.Prelude.{ℕ, Bool, true, false, cond, ◌&&◌, ◌||◌, List, [], ◌∷◌, eqb}
 use Rattle.token.specs.declared.Run.{Run}
+use Rattle.token.specs.Kind.{hash, percent}
 use Rattle.token.specs.Line.{Line, Token}
 use Rattle.runs.specs.Run.{of_kind, is_dots, is_hash, is_percent, of_one, kept, up_to, trim, run_of}
 use Rattle.row.specs.declared.Row.{Row}
+use Rattle.row.specs.declared.tag.Tag.{Tag}
+use Rattle.row.specs.declared.tag.Tag.TheVariants as tag
 use Rattle.row.specs.Row.{one_run, positional, ident, role, option, diagnostic}
 
 -- what reading gives: rows, and whether the list then has an id
@@ -37,6 +40,10 @@ pieces (t ∷ ts) =
 -- Dots gives a role, Hash an id, Percent an option
 abbrev pub symbol_row : Token → Run → Row
 symbol_row t r = cond (is_hash t) (ident r) (cond (is_percent t) (option r) (role r))
+
+-- the tag of that row, by the symbol's kind
+abbrev pub symbol_tag : (kind : ℕ) → Tag
+symbol_tag k = cond (eqb k hash) tag.Id (cond (eqb k percent) tag.Option tag.Role)
 
 -- nothing stands after the symbol
 abbrev pub last_empty : (taken : List Token) → (later : List Piece) → Bool
@@ -83,11 +90,11 @@ abbrev pub group_read : (has : Bool) → (Run → Row) → List (List Token) →
 group_read has f gs = record { rows = group_rows f gs; has_id = has }
 
 -- the rows of one group, and of tokens that are split at a kind, by their tag
-abbrev pub group_row : (tag : ℕ) → List Token → List Row
-group_row tag g = unless_empty (one_run tag) (trim g) []
+abbrev pub group_row : Tag → List Token → List Row
+group_row t g = unless_empty (one_run t) (trim g) []
 
-abbrev pub split_rows : (tag kind : ℕ) → List Token → List Row
-split_rows tag kind ts = group_rows (one_run tag) (groups (of_kind kind) ts)
+abbrev pub split_rows : Tag → (kind : ℕ) → List Token → List Row
+split_rows t kind ts = group_rows (one_run t) (groups (of_kind kind) ts)
 
 -- "`id` empty is 3; second id is 4 at its first token." 3 is at "place 0, the list's own"
 unfoldable pub id_read : (has : Bool) → List Token → Read

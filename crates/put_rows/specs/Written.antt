@@ -1,14 +1,14 @@
 -- What calls that write rows answer, and what the search for the next symbol finds.
 use Rattle.std.specs.Prelude.{ℕ, ◌+◌, ◌-◌, ◌≤◌, ◌<◌, ◌≡◌, Bool, true, List, length, get_or}
-use Rattle.token.specs.declared.Run.{Run}
 use Rattle.token.specs.Kind.{attr_ref}
 use Rattle.token.specs.Line.{Line, Token, line_of, token_at}
-use Rattle.runs.specs.Run.{kept, in_run}
+use Rattle.runs.specs.Run.{kept}
 use Rattle.runs.specs.Places.{FoundIn}
 use Rattle.row.specs.declared.Row.{Row}
+use Rattle.row.specs.declared.tag.Tag.{Tag}
 use Rattle.row.specs.Row.{with_rows, Wrote}
 use Rattle.put_rows.specs.declared.Written.{Written}
-use Rattle.put_rows.specs.Rows.{Read, is_stop, in_shorthand, split_rows}
+use Rattle.put_rows.specs.Rows.{Read, is_stop, in_shorthand, split_rows, run_rows}
 
 -- the answer of a call that writes what a reading gives, from row `at` on
 abbrev pub written : (at : ℕ) → Read → Written
@@ -49,7 +49,12 @@ pub record RowsOf (f : List Token → List Row) (kinds : List ℕ) (from to : �
 abbrev pub Shorthanded : (l : Line) (from to : ℕ) (has : Bool) (before : List ℕ) (at : ℕ) (r : Written) (after : List ℕ) → Type 0
 Shorthanded l from to has = Outcome (in_shorthand has (kept l from to)) (to - from)
 
--- of `put_groups`: a run split at a kind, whatever the line's text
-abbrev pub Grouped : (kinds : List ℕ) (kind tag : ℕ) (run : Run) (has : Bool) (before : List ℕ) (at : ℕ) (r : Written) (after : List ℕ) → Type 0
-Grouped kinds kind tag run has before at r after =
-    (text pairs : List ℕ) → Outcome (record { rows = split_rows tag kind (in_run (line_of kinds text pairs) run); has_id = has }) run.count before at r after
+-- of `put_positional`: the places from..to, whatever the line's text
+abbrev pub Positioned : (kinds : List ℕ) (from to : ℕ) (has : Bool) (before : List ℕ) (at : ℕ) (r : Written) (after : List ℕ) → Type 0
+Positioned kinds from to has before at r after =
+    (text pairs : List ℕ) → WroteId before at (record { rows = run_rows (line_of kinds text pairs) from to; has_id = has }) after r
+
+-- of `put_groups`: the places from..to split at a kind, whatever the line's text
+abbrev pub Grouped : (kinds : List ℕ) (kind : ℕ) (tag : Tag) (from to : ℕ) (has : Bool) (before : List ℕ) (at : ℕ) (r : Written) (after : List ℕ) → Type 0
+Grouped kinds kind tag from to has before at r after =
+    (text pairs : List ℕ) → Outcome (record { rows = split_rows tag kind (kept (line_of kinds text pairs) from to); has_id = has }) (to - from) before at r after

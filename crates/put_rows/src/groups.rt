@@ -1,83 +1,66 @@
 // The groups of options and roles.
 ghost use Rattle.std.specs.Prelude.{◌≡◌, ◌+◌, ◌*◌, ◌-◌, ◌≤◌, length};
 ghost use Rattle.token.specs.Kind.{attr_ref};
+ghost use Rattle.token.specs.KindNumber.{number_of};
 ghost use Rattle.token.specs.Line.{most_tokens};
 ghost use Rattle.row.specs.Row.{width};
-ghost use Rattle.put_rows.specs.Rows.{group_row, split_rows};
+ghost use Rattle.put_rows.specs.Rows.{group_row};
 ghost use Rattle.put_rows.specs.Written.{RowsOf, Grouped};
 
 use super::Written;
-use row::{one_run, put_row};
-use runs::{find_kind, trim};
-use token::{Run, TokenPlace};
+use row::Row;
+use row::tag::Tag;
+use runs::places::Places;
+use token::TokenPlace;
+use token::kind::TokenKind;
 
-// Writes the row of a group, if any token is left when it is trimmed.
-fn put_group<'a, 'b>(
-    kinds: &'a [u8],
-    tag: u32,
-    from: TokenPlace,
-    to: TokenPlace,
-    rows: &'b mut [u32],
-    at: usize,
-) -> usize
-    requires from_le_to { (from.0 ≤ to.0) × (to.0 ≤ length kinds.now) × (length kinds.now ≤ most_tokens) }
-    requires from_in_bounds { width * (at + (to.0 - from.0)) ≤ length rows.old }
-    ensures { RowsOf (group_row tag) kinds.now from.0 to.0 rows.old at result rows.new }
-{
-    let run = trim(kinds, from, to);
-    let count = run.count;
-    if count == 0 {
-        return at;
-    }
-    put_row(rows, at, one_run(tag, run));
-    at + 1
-}
-
-// Writes a row for each group of the tokens kept from `from` up to `to`, split at a kind.
-fn push_attr_groups<'a, 'b>(
-    kinds: &'a [u8],
-    delimiter: u8,
-    tag: u32,
-    from: TokenPlace,
-    to: TokenPlace,
-    rows: &'b mut [u32],
-    at: usize,
-) -> usize
-    requires from_le_to { (from.0 ≤ to.0) × (to.0 ≤ length kinds.now) × (length kinds.now ≤ most_tokens) × (delimiter ≡ attr_ref → ⊥) }
-    requires from_in_bounds { width * (at + (to.0 - from.0)) ≤ length rows.old }
-    ensures { RowsOf (split_rows tag delimiter) kinds.now from.0 to.0 rows.old at result rows.new }
-{
-    let stop = to.0;
-    let mut i = from.0;
-    let mut n = at;
-    loop {
-        let end = find_kind(kinds, delimiter, TokenPlace(i), to);
-        n = put_group(kinds, tag, TokenPlace(i), end, rows, n);
-        if stop <= end.0 {
-            return n;
+impl Written {
+    // Writes the row of a group, if any token is left when it is trimmed.
+    fn put_group(self, rows: &mut [u32], group: Places<'_>, tag: Tag) -> Written
+        requires few { length group.kinds.now ≤ most_tokens }
+        requires from_in_bounds { width * (self.rows + (group.to.0 - group.from.0)) ≤ length rows.old }
+        ensures rows { RowsOf (group_row tag) group.entry.kinds.now group.entry.from.0 group.entry.to.0 rows.old self.rows result.rows rows.new }
+        ensures id { result.id ≡ self.id }
+    {
+        let run = group.trim();
+        if run.count == 0 {
+            return self;
         }
-        i = end.0 + 1;
+        self.put_one(rows, Row::one_run(tag, run))
     }
-}
 
-// Writes a row for each group of a run; whether the list has an id is handed on.
-pub fn put_groups<'a, 'b>(
-    kinds: &'a [u8],
-    delimiter: u8,
-    tag: u32,
-    run: Run,
-    id: bool,
-    rows: &'b mut [u32],
-    at: usize,
-) -> Written
-    requires count_in_bounds { (run.place.0 + run.count ≤ length kinds.now) × (length kinds.now ≤ most_tokens) × (delimiter ≡ attr_ref → ⊥) }
-    requires count_in_bounds_2 { width * (at + run.count) ≤ length rows.old }
-    ensures { Grouped kinds.now delimiter tag run id rows.old at result rows.new }
-{
-    let from = run.place;
-    let to = TokenPlace(from.0 + run.count);
-    Written {
-        rows: push_attr_groups(kinds, delimiter, tag, from, to, rows, at),
-        id,
+    // Writes a row for each group of some places, split at a kind; whether the list has an id is handed on.
+    pub fn put_groups(
+        self,
+        rows: &mut [u32],
+        places: Places<'_>,
+        delimiter: TokenKind,
+        tag: Tag,
+    ) -> Written
+        requires few { (length places.kinds.now ≤ most_tokens) × (number_of delimiter ≡ attr_ref → ⊥) }
+        requires from_in_bounds { width * (self.rows + (places.to.0 - places.from.0)) ≤ length rows.old }
+        ensures { Grouped places.entry.kinds.now (number_of delimiter) tag places.entry.from.0 places.entry.to.0 self.id rows.old self.rows result rows.new }
+    {
+        let mut written = self;
+        let mut from = places.from;
+        // No `for`: a turn takes a whole group, and the next begins past the delimiter at its end.
+        loop {
+            let left = Places {
+                kinds: places.kinds,
+                from,
+                to: places.to,
+            };
+            let end = left.find_kind(delimiter);
+            let group = Places {
+                kinds: places.kinds,
+                from,
+                to: end,
+            };
+            written = written.put_group(rows, group, tag);
+            if places.to.0 <= end.0 {
+                return written;
+            }
+            from = TokenPlace(end.0 + 1);
+        }
     }
 }

@@ -4,10 +4,10 @@
 pub mod groups;
 pub mod one_row;
 pub mod shorthand;
-pub mod single;
 
-// How many rows are written, and whether the list then has an id.
-#[derive(Clone, Copy)]
+// How many rows are written, and whether the list then has an id. A method of it writes the next rows, and answers how it stands then. The row buffer is no
+// field of it: tried, and where a struct that holds the loan ends, nothing says any more what the buffer holds.
+#[derive(Clone, Copy, Debug, PartialEq, Eq)]
 pub struct Written {
     pub rows: usize,
     pub id: bool,

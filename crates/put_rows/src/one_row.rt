@@ -1,86 +1,88 @@
-// Rows that stand alone: an empty positional, a positional, a name and a value, a diagnostic, an id.
-ghost use Rattle.std.specs.Prelude.{◌≡◌, List, ℕ, ◌+◌, ◌*◌, ◌≤◌, length};
-ghost use Rattle.token.specs.Line.{line_of, most_tokens};
-ghost use Rattle.row.specs.Row.{width, empty_positional, two_runs, diagnostic, with_rows, Fits, small};
-ghost use Rattle.put_rows.specs.Rows.{one_row, id_run, run_rows};
-ghost use Rattle.put_rows.specs.Written.{WroteId};
+// Rows that stand alone: one as it is given, an empty positional, a positional, a name and a value, a diagnostic, an id.
+ghost use Rattle.std.specs.Prelude.{◌≡◌, ◌+◌, ◌*◌, ◌≤◌, length};
+ghost use Rattle.token.specs.Line.{most_tokens};
+ghost use Rattle.row.specs.Row.{width, empty_positional, two_runs, diagnostic, Fits, small};
+ghost use Rattle.row.specs.Diagnostic.{diagnostic_number};
+ghost use Rattle.put_rows.specs.Rows.{one_row, id_run};
+ghost use Rattle.put_rows.specs.Written.{WroteId, Positioned};
 
 use super::Written;
-use super::single::put_one;
-use row::tag::{DIAGNOSTIC, EMPTY_POSITIONAL, ID, POSITIONAL};
-use row::{Row, one_run, put_row};
-use runs::run_of;
+use row::Row;
+use row::diagnostic::Diagnostic;
+use row::tag::Tag;
+use runs::places::Places;
 use token::{Run, TokenPlace};
 
-// Writes the row of an attribute of which nothing is left.
-pub fn put_empty(rows: &mut [u32], at: usize, id: bool) -> Written
-    requires { width * at + width ≤ length rows.old }
-    ensures { WroteId rows.old at (one_row id empty_positional) rows.new result }
-{
-    let none = Run {
-        place: TokenPlace(0),
-        count: 0,
-    };
-    put_one(rows, at, one_run(EMPTY_POSITIONAL, none), id)
-}
-
-// Writes the row of the tokens kept from `from` up to `to`, a positional.
-pub fn put_positional<'a, 'b>(
-    kinds: &'a [u8],
-    from: TokenPlace,
-    to: TokenPlace,
-    rows: &'b mut [u32],
-    at: usize,
-)
-    requires from_le_to { (from.0 ≤ to.0) × (to.0 ≤ length kinds.now) × (length kinds.now ≤ most_tokens) }
-    requires width_in_bounds { width * at + width ≤ length rows.old }
-    ensures { (text pairs : List ℕ) → rows.new ≡ with_rows rows.old at (run_rows (line_of kinds.now text pairs) from.0 to.0) }
-{
-    put_row(rows, at, one_run(POSITIONAL, run_of(kinds, from, to)));
-}
-
-// Writes a row of a name and a value; whether the list has an id is handed on.
-pub fn put_named(rows: &mut [u32], at: usize, tag: u32, name: Run, value: Run, id: bool) -> Written
-    requires { (width * at + width ≤ length rows.old) × Fits (two_runs tag name value) }
-    ensures { WroteId rows.old at (one_row id (two_runs tag name value)) rows.new result }
-{
-    let row = Row {
-        tag,
-        first: name,
-        second: value,
-    };
-    put_one(rows, at, row, id)
-}
-
-// Writes a diagnostic.
-pub fn put_diagnostic(
-    rows: &mut [u32],
-    at: usize,
-    place: TokenPlace,
-    number: usize,
-    id: bool,
-) -> Written
-    requires { (width * at + width ≤ length rows.old) × small place.0 × small number }
-    ensures { WroteId rows.old at (one_row id (diagnostic place.0 number)) rows.new result }
-{
-    let run = Run {
-        place,
-        count: number,
-    };
-    put_one(rows, at, one_run(DIAGNOSTIC, run), id)
-}
-
-// Writes the row of an id, or what is wrong with it; `has` says that the list already has an id.
-pub fn put_id(rows: &mut [u32], at: usize, run: Run, has: bool) -> Written
-    requires { (width * at + width ≤ length rows.old) × small run.place.0 × small run.count }
-    ensures { WroteId rows.old at (id_run has run) rows.new result }
-{
-    let count = run.count;
-    if count == 0 {
-        return put_diagnostic(rows, at, TokenPlace(0), 3, has);
+impl Written {
+    // Writes one row; whether the list has an id is handed on.
+    pub fn put_one(self, rows: &mut [u32], row: Row) -> Written
+        requires { (width * self.rows + width ≤ length rows.old) × Fits row }
+        ensures { WroteId rows.old self.rows (one_row self.id row) rows.new result }
+    {
+        row.put(rows, self.rows);
+        Written {
+            rows: self.rows + 1,
+            id: self.id,
+        }
     }
-    if has {
-        return put_diagnostic(rows, at, run.place, 4, true);
+
+    // Writes the row of an attribute of which nothing is left.
+    pub fn put_empty(self, rows: &mut [u32]) -> Written
+        requires { width * self.rows + width ≤ length rows.old }
+        ensures { WroteId rows.old self.rows (one_row self.id empty_positional) rows.new result }
+    {
+        self.put_one(rows, Row::one_run(Tag::EmptyPositional, Run::EMPTY))
     }
-    put_one(rows, at, one_run(ID, run), true)
+
+    // Writes the row of the tokens kept of some places, a positional.
+    pub fn put_positional(self, rows: &mut [u32], places: Places<'_>) -> Written
+        requires few { length places.kinds.now ≤ most_tokens }
+        requires width_in_bounds { width * self.rows + width ≤ length rows.old }
+        ensures { Positioned places.entry.kinds.now places.entry.from.0 places.entry.to.0 self.id rows.old self.rows result rows.new }
+    {
+        self.put_one(rows, Row::one_run(Tag::Positional, places.run_of()))
+    }
+
+    // Writes a row of a name and a value; whether the list has an id is handed on.
+    pub fn put_named(self, rows: &mut [u32], tag: Tag, name: Run, value: Run) -> Written
+        requires { (width * self.rows + width ≤ length rows.old) × Fits (two_runs tag name value) }
+        ensures { WroteId rows.old self.rows (one_row self.id (two_runs tag name value)) rows.new result }
+    {
+        let row = Row {
+            tag,
+            first: name,
+            second: value,
+        };
+        self.put_one(rows, row)
+    }
+
+    // Writes a diagnostic.
+    pub fn put_diagnostic(self, rows: &mut [u32], place: TokenPlace, why: Diagnostic) -> Written
+        requires { (width * self.rows + width ≤ length rows.old) × small place.0 }
+        ensures { WroteId rows.old self.rows (one_row self.id (diagnostic place.0 (diagnostic_number why))) rows.new result }
+    {
+        let run = Run {
+            place,
+            count: usize::from(why),
+        };
+        self.put_one(rows, Row::one_run(Tag::Diagnostic, run))
+    }
+
+    // Writes the row of an id, or what is wrong with it.
+    pub fn put_id(self, rows: &mut [u32], run: Run) -> Written
+        requires { (width * self.rows + width ≤ length rows.old) × small run.place.0 × small run.count }
+        ensures { WroteId rows.old self.rows (id_run self.id run) rows.new result }
+    {
+        if run.count == 0 {
+            return self.put_diagnostic(rows, TokenPlace(0), Diagnostic::InvalidEmptyIdAttribute);
+        }
+        if self.id {
+            return self.put_diagnostic(rows, run.place, Diagnostic::MoreThanOneIdAttribute);
+        }
+        let first = Written {
+            rows: self.rows,
+            id: true,
+        };
+        first.put_one(rows, Row::one_run(Tag::Id, run))
+    }
 }

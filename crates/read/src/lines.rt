@@ -1,114 +1,75 @@
-// The lines of a file of any length, read chunk by chunk.
-use super::one_line;
-use super::scan::{byte, find, onward, put, up};
-use super::show::{count, words};
+// The lines of a file of any length. It is read chunk by chunk, and not by `read_until`, which holds a line of any length.
+use crate::answer;
+use std::alloc::{AllocError, Global};
 use std::io::{self, Read};
 
 // The most bytes of a line of the file. A line that the reader takes has fewer, with each byte written by four and the longest name of a kind before
 // each token.
-pub const ROOM: usize = 400000;
+const MOST_BYTES: usize = 400_000;
 
-// What is held of a line whose end is not read yet: so many bytes at the front of the buffer, one more than ROOM where it has too many; and its number.
-#[derive(Clone, Copy)]
-pub struct Held {
-    pub bytes: usize,
-    pub line: usize,
+// All lines from this one on are told of by its number.
+const LAST_NUMBER: u64 = 999_999_999_999;
+
+// What is held of a line whose end is not read yet: its bytes, of which one too many shows that there are too many; and its number.
+#[derive(Drop)]
+struct Held {
+    bytes: Vec<u8>,
+    number: u64,
 }
 
-// Puts the bytes of a chunk from `from` up to `to` behind those that are held.
-fn hold(chunk: &[u8], from: usize, to: usize, buffer: &mut [u8], held: Held) -> Held {
-    let mut bytes = held.bytes;
-    let mut at = from;
-    while at < to {
-        put(buffer, bytes, byte(chunk, at));
-        bytes = up(bytes, ROOM + 1);
-        at += 1;
-    }
-    Held {
-        bytes,
-        line: held.line,
-    }
-}
-
-// Where a line of so many bytes ends: before a carriage return, if that is its last.
-fn without_return(buffer: &[u8], bytes: usize) -> usize {
-    if bytes == 0 {
-        return 0;
-    }
-    if byte(buffer, bytes - 1) == b'\r' {
-        return bytes - 1;
-    }
-    bytes
-}
-
-// Tells of the line that is held and has ended, and goes on to the next.
-fn end_line(rt: &impl Print, buffer: &[u8], held: Held) -> io::Result<Held> {
-    if held.bytes > ROOM {
-        words(rt, b"line ")?;
-        count(rt, held.line)?;
-        words(rt, b": over 400,000 bytes\n")?;
-    } else {
-        one_line(rt, buffer, held.line, without_return(buffer, held.bytes))?;
-    }
-    Ok(Held {
-        bytes: 0,
-        line: onward(held.line, 1, 999999999999),
-    })
-}
-
-// Takes the first `n` bytes of a chunk, and tells of each line that ends there.
-fn take_chunk(
-    rt: &impl Print,
-    chunk: &[u8],
-    n: usize,
-    buffer: &mut [u8],
-    held: Held,
-) -> io::Result<Held> {
-    let mut now = held;
-    let mut at: usize = 0;
-    while at < n {
-        let end = find(chunk, at, n, b'\n');
-        now = hold(chunk, at, end, buffer, now);
-        if end >= n {
-            return Ok(now);
+impl Held {
+    fn new(alloc: Global) -> Held {
+        Held {
+            bytes: Vec::new(alloc),
+            number: 1,
         }
-        now = end_line(rt, buffer, now)?;
-        if end < at {
-            return Ok(now);
+    }
+
+    // Puts a part of the line behind what is held of it.
+    fn hold(&mut self, part: &[u8]) -> Result<(), AllocError> {
+        let room = (MOST_BYTES + 1).saturating_sub(self.bytes.len());
+        self.bytes.extend_from_slice(&part[..part.len().min(room)])
+    }
+
+    // Tells of the line, which has ended, and goes on to the next.
+    fn end(&mut self, rt: &(impl Print + AllocGlobal)) -> io::Result<()> {
+        let line = self.bytes.as_slice();
+        if line.len() > MOST_BYTES {
+            println!(rt; "line {}: over 400,000 bytes", self.number)?;
+        } else {
+            answer::tell(rt, self.number, line.strip_suffix(b"\r").unwrap_or(line))?;
         }
-        at = end + 1;
+        self.bytes.clear();
+        self.number = self.number.saturating_add(1).min(LAST_NUMBER);
+        Ok(())
     }
-    Ok(now)
-}
 
-// Tells of a last line that does not end in a newline.
-fn last_line(rt: &impl Print, buffer: &[u8], held: Held) -> io::Result<()> {
-    if held.bytes > 0 {
-        end_line(rt, buffer, held)?;
-    }
-    Ok(())
-}
-
-// Tells of each line of a file, of which a chunk is read at a time. So many chunks no file has.
-fn read_chunks<R: Read>(
-    rt: &impl Print,
-    file: &mut R,
-    chunk: &mut [u8],
-    buffer: &mut [u8],
-) -> io::Result<()> {
-    let mut held = Held { bytes: 0, line: 1 };
-    for _ in 0..u64::MAX {
-        let n = file.read(chunk)?;
-        if n == 0 {
-            return last_line(rt, buffer, held);
+    // Tells of each line that ends in a chunk of the file, and holds what stands behind the last.
+    fn take_chunk(&mut self, rt: &(impl Print + AllocGlobal), chunk: &[u8]) -> io::Result<()> {
+        let mut rest = chunk;
+        while let Some(end) = rest.iter().position(|b| *b == b'\n') {
+            self.hold(&rest[..end])?;
+            self.end(rt)?;
+            rest = &rest[end + 1..];
         }
-        held = take_chunk(rt, chunk, n, buffer, held)?;
+        self.hold(rest)?;
+        Ok(())
     }
-    Ok(())
 }
 
-pub(crate) fn all_lines<R: Read>(rt: &impl Print, file: &mut R) -> io::Result<()> {
+// Tells of each line of a file, also of a last one that does not end in a newline. So many chunks no file has.
+pub(crate) fn tell_all<R: Read>(rt: &(impl Print + AllocGlobal), file: &mut R) -> io::Result<()> {
     let mut chunk = [0u8; 65536];
-    let mut buffer = [0u8; ROOM];
-    read_chunks(rt, file, &mut chunk, &mut buffer)
+    let mut held = Held::new(rt.alloc());
+    for _ in 0..u64::MAX {
+        let n = file.read(&mut chunk)?;
+        if n == 0 {
+            break;
+        }
+        held.take_chunk(rt, &chunk[..n])?;
+    }
+    if !held.bytes.is_empty() {
+        held.end(rt)?;
+    }
+    Ok(())
 }

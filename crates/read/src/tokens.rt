@@ -1,244 +1,212 @@
-// A line of the file to the kinds, the text and the pairs of a line of tokens (docs/FORMAT.md).
-ghost use Rattle.std.specs.Prelude.{◌≤◌};
+// The tokens of a line of the file, and their text (docs/FORMAT.md).
+ghost use Rattle.std.specs.Prelude.{◌≤◌, ◌<◌, length, vec_len, IfSome};
+ghost use Rattle.std.specs.Iterator.{at_most};
 
-use super::scan::{byte, find, less, onward, put, put_pair, up, word_number};
+use std::alloc::{AllocError, Global};
+use std::fmt;
+use std::ops::Range;
+use token::kind::TokenKind;
+use token::line::{MOST_BYTES, MOST_TOKENS};
 
-// One token and one byte more than a line may have, so that a longer one is still refused.
-pub const ROOM_TOKENS: usize = 4097;
+// The names of the kinds, in the order of their numbers.
+const NAMES: [&str; 51] = [
+    "Ampersand",
+    "AttrDef",
+    "AttrPassDbl",
+    "AttrRef",
+    "Backtick",
+    "Backslash",
+    "Bang",
+    "CalloutNumber",
+    "Caret",
+    "CloseBrace",
+    "CloseBracket",
+    "CloseParens",
+    "Colon",
+    "Comma",
+    "Dashes",
+    "DelimiterLine",
+    "Digits",
+    "Directive",
+    "Discard",
+    "DoubleQuote",
+    "Dots",
+    "Email",
+    "Entity",
+    "EqualSigns",
+    "Eof",
+    "ForwardSlashes",
+    "GreaterThan",
+    "Hash",
+    "LessThan",
+    "MacroName",
+    "MaybeEmail",
+    "Newline",
+    "NoBreakSpace",
+    "OpenBrace",
+    "OpenBracket",
+    "OpenParens",
+    "Percent",
+    "Pipe",
+    "Plus",
+    "PreprocPassthru",
+    "Punctuation",
+    "QuestionMark",
+    "SemiColon",
+    "SingleQuote",
+    "Star",
+    "TermDelimiter",
+    "Tilde",
+    "Underscore",
+    "UriScheme",
+    "Whitespace",
+    "Word",
+];
 
-pub const ROOM_BYTES: usize = 65536;
-
-// How many tokens and bytes a line has, and what is wrong with it: 0 for nothing, else a reason, with the place of the word that it is about.
+// What can be wrong with a word of a line.
 #[derive(Clone, Copy)]
-pub struct Filled {
-    pub tokens: usize,
-    pub bytes: usize,
-    pub wrong: usize,
-    pub from: usize,
-    pub to: usize,
+pub(crate) enum Problem {
+    NoColon,
+    UnknownKind,
+    UnknownEscape,
+    UnknownEntry,
 }
 
-// Where the text of a token ends, or that it has an unknown escape.
+impl fmt::Display for Problem {
+    fn fmt<W: fmt::Write>(&self, f: &mut fmt::Formatter<W>) -> fmt::Result {
+        f.write_str(match self {
+            Problem::NoColon => "a token without a colon",
+            Problem::UnknownKind => "an unknown kind",
+            Problem::UnknownEscape => "an unknown escape",
+            Problem::UnknownEntry => "an unknown entry",
+        })
+    }
+}
+
+// Why a line of the file is not read: a word of it is wrong, or memory ran out.
 #[derive(Clone, Copy)]
-pub struct Copied {
-    pub bytes: usize,
-    pub known: bool,
+pub(crate) enum Fault<'a> {
+    Wrong(Problem, &'a [u8]),
+    OutOfMemory(AllocError),
 }
 
-// The kind of a name, 99 for none.
-fn kind_of(file: &[u8], from: usize, to: usize) -> usize
-    ensures { result ≤ 99 }
-{
-    word_number(
-        b"Ampersand AttrDef AttrPassDbl AttrRef Backtick Backslash Bang CalloutNumber Caret CloseBrace CloseBracket CloseParens Colon Comma Dashes DelimiterLine Digits Directive Discard DoubleQuote Dots Email Entity EqualSigns Eof ForwardSlashes GreaterThan Hash LessThan MacroName MaybeEmail Newline NoBreakSpace OpenBrace OpenBracket OpenParens Percent Pipe Plus PreprocPassthru Punctuation QuestionMark SemiColon SingleQuote Star TermDelimiter Tilde Underscore UriScheme Whitespace Word ",
-        file,
-        from,
-        to,
-    )
+impl From<AllocError> for Fault<'_> {
+    fn from(error: AllocError) -> Self {
+        Fault::OutOfMemory(error)
+    }
 }
 
-// What a hexadecimal digit counts; 16 for any other byte.
-fn hex(b: u8) -> u8
-    ensures { result ≤ 16 }
-{
-    if b < b'0' {
-        return 16;
-    }
-    if b <= b'9' {
-        return b - b'0';
-    }
-    if b < b'a' {
-        return 16;
-    }
-    if b <= b'f' {
-        return b - b'a' + 10;
-    }
-    16
-}
-
-// A byte of a token's text: its value, how many bytes of the file it takes, and whether its escape is a known one.
+// A token: its kind, and where its text stands in the text of the line.
 #[derive(Clone, Copy)]
-pub struct Piece {
-    pub value: u8,
-    pub width: usize,
-    pub known: bool,
+pub(crate) struct Token {
+    pub(crate) kind: TokenKind,
+    pub(crate) start: u32,
+    pub(crate) len: u32,
 }
 
-fn plain(value: u8, width: usize) -> Piece {
-    Piece {
-        value,
-        width,
-        known: true,
+impl Token {
+    pub(crate) fn bytes(self) -> Range<usize> {
+        let start = self.start as usize;
+        start..start + self.len as usize
     }
 }
 
-fn unknown() -> Piece {
-    Piece {
-        value: 0,
-        width: 1,
-        known: false,
-    }
+// A line of tokens. It has room for one token and one byte more than the reader takes, so that a longer line is still refused.
+#[derive(Drop)]
+pub(crate) struct Line {
+    pub(crate) tokens: Vec<Token>,
+    pub(crate) text: Vec<u8>,
+    ghost room: { vec_len text ≤ 65536 },
 }
 
-// The byte of two hexadecimal digits.
-fn hex_piece(high: u8, low: u8) -> Piece {
-    let h = hex(high);
-    let l = hex(low);
-    if h > 15 {
-        return unknown();
-    }
-    if l > 15 {
-        return unknown();
-    }
-    plain(h * 16 + l, 4)
-}
-
-// The byte that an escape stands for: `second` is the byte behind the backslash, and two more follow.
-fn escape(second: u8, third: u8, fourth: u8) -> Piece {
-    match second {
-        b'\\' => plain(b'\\', 2),
-        b's' => plain(b' ', 2),
-        b't' => plain(b'\t', 2),
-        b'n' => plain(b'\n', 2),
-        b'x' => hex_piece(third, fourth),
-        _ => unknown(),
-    }
-}
-
-// The byte `n` places behind `at`, 0 from `to` on.
-fn byte_behind(file: &[u8], at: usize, n: usize, to: usize) -> u8 {
-    let place = onward(at, n, to);
-    if place >= to {
-        return 0;
-    }
-    byte(file, place)
-}
-
-// The byte of a token's text that is written at `at`; the text ends at `to`.
-fn piece_at(file: &[u8], at: usize, to: usize) -> Piece {
-    let first = byte(file, at);
-    if first != b'\\' {
-        return plain(first, 1);
-    }
-    escape(
-        byte_behind(file, at, 1, to),
-        byte_behind(file, at, 2, to),
-        byte_behind(file, at, 3, to),
-    )
-}
-
-// Copies the text of a token, from place `bytes` of `text` on.
-fn put_text(file: &[u8], from: usize, to: usize, text: &mut [u8], bytes: usize) -> Copied {
-    let mut at = from;
-    let mut end = bytes;
-    while at < to {
-        let p = piece_at(file, at, to);
-        if !p.known {
-            return Copied {
-                bytes: end,
-                known: false,
-            };
+impl Line {
+    pub(crate) fn new(alloc: Global) -> Line {
+        Line {
+            tokens: Vec::new(alloc),
+            text: Vec::new(alloc),
         }
-        put(text, end, p.value);
-        end = up(end, ROOM_BYTES);
-        let next = onward(at, p.width, to);
-        if next <= at {
-            return Copied {
-                bytes: end,
-                known: false,
-            };
+    }
+
+    // Puts a token and its text behind the others, as far as there is room.
+    fn push(&mut self, kind: TokenKind, text: &[u8]) -> Result<(), AllocError> {
+        let start = self.text.len();
+        let text = &text[..text.len().min(MOST_BYTES + 1 - start)];
+        if self.tokens.len() <= MOST_TOKENS {
+            self.tokens.push(Token {
+                kind,
+                start: start as u32,
+                len: text.len() as u32,
+            })?;
         }
-        at = next;
+        self.text.extend_from_slice(text)
     }
-    Copied {
-        bytes: end,
-        known: true,
+
+    // Puts a token that is written as a word of the file.
+    pub(crate) fn push_word<'a>(&mut self, alloc: Global, word: &'a [u8]) -> Result<(), Fault<'a>> {
+        let wrong = |problem| Fault::Wrong(problem, word);
+        let colon = word
+            .iter()
+            .position(|b| *b == b':')
+            .ok_or(wrong(Problem::NoColon))?;
+        let kind = kind_named(&word[..colon]).ok_or(wrong(Problem::UnknownKind))?;
+        let text: Vec<u8> = Written(&word[colon + 1..])
+            .map(|b| b.ok_or(wrong(Problem::UnknownEscape)))
+            .try_collect(alloc)?;
+        self.push(kind, &text)?;
+        Ok(())
     }
 }
 
-fn bad(wrong: usize, from: usize, to: usize) -> Filled {
-    Filled {
-        tokens: 0,
-        bytes: 0,
-        wrong,
-        from,
-        to,
+// The kind of a name.
+fn kind_named(name: &[u8]) -> Option<TokenKind> {
+    let number = NAMES.iter().position(|known| known.as_bytes() == name)?;
+    TokenKind::try_from(number as u8).ok()
+}
+
+// What a hexadecimal digit counts.
+fn hex(digit: u8) -> Option<u8>
+    ensures { IfSome result (λ n. n < 16) }
+{
+    match digit {
+        b'0'..=b'9' => Some(digit - b'0'),
+        b'a'..=b'f' => Some(digit - b'a' + 10),
+        _ => None,
     }
 }
 
-// Puts one token, written from `from` to `to`, behind the `tokens` tokens and `bytes` bytes that are there. Where nothing is written, none.
-fn put_token(
-    file: &[u8],
-    from: usize,
-    to: usize,
-    kinds: &mut [u8],
-    text: &mut [u8],
-    pairs: &mut [u32],
-    tokens: usize,
-    bytes: usize,
-) -> Filled {
-    if from >= to {
-        return Filled {
-            tokens,
-            bytes,
-            wrong: 0,
-            from,
-            to,
+// The byte that an escape stands for, of which what follows the backslash is given, and what follows the escape.
+fn unescaped(written: &[u8]) -> Option<(u8, &[u8])>
+    ensures { IfSome result (λ p. length p.1.now ≤ length written.now) }
+{
+    match written {
+        [b'\\', rest @ ..] => Some((b'\\', rest)),
+        [b's', rest @ ..] => Some((b' ', rest)),
+        [b't', rest @ ..] => Some((b'\t', rest)),
+        [b'n', rest @ ..] => Some((b'\n', rest)),
+        [b'x', high, low, rest @ ..] => Some((16 * hex(*high)? + hex(*low)?, rest)),
+        _ => None,
+    }
+}
+
+// The bytes of a token's text that is written in the file; `None` for an unknown escape.
+#[derive(Drop)]
+struct Written<'a>(&'a [u8]);
+
+impl Iterator for Written<'_> {
+    type Item = Option<u8>;
+
+    ghost remaining = { λ s. at_most (length s.0.now) };
+
+    fn next(&mut self) -> Option<Option<u8>> {
+        let (first, rest) = self.0.split_first()?;
+        self.0 = rest;
+        if *first != b'\\' {
+            return Some(Some(*first));
+        }
+        let Some((byte, rest)) = unescaped(rest) else {
+            return Some(None);
         };
-    }
-    let colon = find(file, from, to, b':');
-    if colon >= to {
-        return bad(1, from, to);
-    }
-    let kind = kind_of(file, from, colon);
-    if kind > 50 {
-        return bad(2, from, to);
-    }
-    let copied = put_text(file, onward(colon, 1, to), to, text, bytes);
-    if !copied.known {
-        return bad(3, from, to);
-    }
-    put(kinds, tokens, kind as u8);
-    put_pair(pairs, tokens, bytes, less(copied.bytes, bytes));
-    Filled {
-        tokens: up(tokens, ROOM_TOKENS),
-        bytes: copied.bytes,
-        wrong: 0,
-        from,
-        to,
-    }
-}
-
-// Reads the tokens of a line of the file, written from `from` to `to` with blanks between them.
-pub(crate) fn fill(
-    file: &[u8],
-    from: usize,
-    to: usize,
-    kinds: &mut [u8],
-    text: &mut [u8],
-    pairs: &mut [u32],
-) -> Filled {
-    let mut at = from;
-    let mut tokens: usize = 0;
-    let mut bytes: usize = 0;
-    while at < to {
-        let end = find(file, at, to, b' ');
-        let put = put_token(file, at, end, kinds, text, pairs, tokens, bytes);
-        if put.wrong != 0 {
-            return put;
-        }
-        if end < at {
-            return bad(1, at, to);
-        }
-        tokens = put.tokens;
-        bytes = put.bytes;
-        at = end + 1;
-    }
-    Filled {
-        tokens,
-        bytes,
-        wrong: 0,
-        from,
-        to,
+        self.0 = rest;
+        Some(Some(byte))
     }
 }

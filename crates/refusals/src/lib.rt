@@ -1,58 +1,94 @@
-// The numbers with which a call is refused: the README's table, in the order of its rows. A caller sees these numbers in every answer, so each is
-// pinned by a contract.
+// Why a call is turned away: the README's table, in the order of its rows. A caller sees these numbers in every answer, so each is pinned by a
+// contract.
 #![tactic(auto)]
 
 ghost use Rattle.std.specs.Prelude.{◌≡◌};
 ghost use Rattle.refusals.specs.Refusals.{numbers};
+ghost use Rattle.refusals.specs.Numbered.{Gives, refusal_number};
 
-// line: no tokens
-pub const NO_TOKENS: usize = 1;
+use std::fmt;
 
-// line: over 4,096 tokens
-pub const TOO_MANY_TOKENS: usize = 2;
+// A row of the table. `refusal as usize` is its number.
+#[derive(Clone, Copy, Debug, PartialEq, Eq)]
+pub enum Refusal {
+    // line: no tokens
+    NoTokens = 1,
+    // line: over 4,096 tokens
+    TooManyTokens,
+    // text of a line: over 65,535 bytes
+    TextTooLong,
+    // pairs: not two numbers for each kind
+    PairsNotTwo,
+    // kinds: some kind over 50
+    KindTooLarge,
+    // pairs: one starts before the previous ends, or ends past the text
+    PairsNotInOrder,
+    // row buffer: under a row for each token
+    RowsTooShort,
+    // closing bracket: there is none
+    NoClosingBracket,
+    // subs text: over 65,535 bytes
+    SubsTextTooLong,
+    // set: not held
+    SetNotHeld,
+    // set, sheet mode: held but not sound
+    SetNotSound,
+}
 
-// text of a line: over 65,535 bytes
-pub const TEXT_TOO_LONG: usize = 3;
+impl From<Refusal> for usize {
+    ghost from_gives = { Gives };
 
-// pairs: not two numbers for each kind
-pub const PAIRS_NOT_TWO: usize = 4;
+    fn from(refusal: Refusal) -> usize {
+        refusal as usize
+    }
+}
 
-// kinds: some kind over 50
-pub const KIND_TOO_LARGE: usize = 5;
-
-// pairs: one starts before the previous ends, or ends past the text
-pub const PAIRS_NOT_IN_ORDER: usize = 6;
-
-// row buffer: under a row for each token
-pub const ROWS_TOO_SHORT: usize = 7;
-
-// closing bracket: there is none
-pub const NO_CLOSING_BRACKET: usize = 8;
-
-// subs text: over 65,535 bytes
-pub const SUBS_TEXT_TOO_LONG: usize = 9;
-
-// set: not held
-pub const SET_NOT_HELD: usize = 10;
-
-// set, sheet mode: held but not sound
-pub const SET_NOT_SOUND: usize = 11;
+// What is wrong, in words.
+impl fmt::Display for Refusal {
+    fn fmt<W: fmt::Write>(&self, f: &mut fmt::Formatter<W>) -> fmt::Result {
+        f.write_str(match self {
+            Refusal::NoTokens => "no tokens",
+            Refusal::TooManyTokens => "over 4,096 tokens",
+            Refusal::TextTooLong => "the text is over 65,535 bytes",
+            Refusal::PairsNotTwo => "not two numbers for each kind",
+            Refusal::KindTooLarge => "some kind is over 50",
+            Refusal::PairsNotInOrder => {
+                "a token starts before the previous ends, or ends past the text"
+            }
+            Refusal::RowsTooShort => "the row buffer is too short",
+            Refusal::NoClosingBracket => "no closing bracket",
+            Refusal::SubsTextTooLong => "the subs text is over 65,535 bytes",
+            Refusal::SetNotHeld => "the set is not held",
+            Refusal::SetNotSound => "the set is held but not sound",
+        })
+    }
+}
 
 // Every number, in the order of the table.
 pub fn all() -> [usize; 11]
     ensures { result ≡ numbers }
 {
     [
-        NO_TOKENS,
-        TOO_MANY_TOKENS,
-        TEXT_TOO_LONG,
-        PAIRS_NOT_TWO,
-        KIND_TOO_LARGE,
-        PAIRS_NOT_IN_ORDER,
-        ROWS_TOO_SHORT,
-        NO_CLOSING_BRACKET,
-        SUBS_TEXT_TOO_LONG,
-        SET_NOT_HELD,
-        SET_NOT_SOUND,
+        Refusal::NoTokens as usize,
+        Refusal::TooManyTokens as usize,
+        Refusal::TextTooLong as usize,
+        Refusal::PairsNotTwo as usize,
+        Refusal::KindTooLarge as usize,
+        Refusal::PairsNotInOrder as usize,
+        Refusal::RowsTooShort as usize,
+        Refusal::NoClosingBracket as usize,
+        Refusal::SubsTextTooLong as usize,
+        Refusal::SetNotHeld as usize,
+        Refusal::SetNotSound as usize,
     ]
+}
+
+// The number of a call that is refused, 0 where it is not: what C is told.
+pub fn number_or_0(outcome: Result<(), Refusal>) -> usize
+    ensures { result ≡ refusal_number outcome }
+{
+    match outcome {
+        Ok(()) => 0,
+        Err(refusal) => usize::from(refusal),
+    }
 }

@@ -1,105 +1,96 @@
 // Decimal numbers in a text, each ended by one other byte.
-ghost use Rattle.std.specs.Prelude.{◌≡◌, ◌≤◌};
+ghost use Rattle.std.specs.Prelude.{◌≤◌, ◌<◌, IfSome, length};
+ghost use Rattle.std.specs.Iterator.{at_most};
 
-#[derive(Clone, Copy)]
-pub struct Decimal {
-    pub value: u64,
-    pub next: usize,
-}
+use std::alloc::{AllocError, Global};
 
-// How many elements an array has in a recorded call, and where reading goes on.
-#[derive(Clone, Copy)]
-pub struct Filled {
-    pub count: usize,
-    pub next: usize,
-}
-
-fn wide(b: u8) -> u64
-    ensures { result ≡ b }
+// What a digit counts.
+fn digit(b: u8) -> Option<u64>
+    ensures { IfSome result (λ d. d ≤ 9) }
 {
-    b as u64
-}
-
-// What a digit counts; 10 for any other byte.
-fn digit(b: u8) -> u64
-    ensures { result ≤ 10 }
-{
-    if b < b'0' {
-        return 10;
+    match b {
+        b'0'..=b'9' => Some(u64::from(b - b'0')),
+        _ => None,
     }
-    if b > b'9' {
-        return 10;
-    }
-    wide(b) - 48
 }
 
-// The number that starts at `start`, read no further than a u32 could need, and the place behind the byte that ends it.
-pub(crate) fn number(text: &[u8], start: usize) -> Decimal
-    ensures { result.value ≤ 4294967309 }
+// The number that a text starts with, read no further than a u32 could need, and the text behind the byte that ends it.
+fn first_number(text: &[u8]) -> (u64, &[u8])
+    ensures { 0 < length text.now → length result.1.now < length text.now }
 {
-    let mut value: u64 = 0;
-    let mut at = start;
-    while at < text.len() {
-        let d = digit(text[at]);
-        if d > 9 {
-            return Decimal {
-                value,
-                next: at + 1,
-            };
+    let mut value = 0;
+    for (at, b) in text.iter().enumerate() {
+        match digit(*b) {
+            Some(digit) if value <= 429_496_730 => value = value * 10 + digit,
+            _ => return (value, &text[at + 1..]),
         }
-        if value > 429496730 {
-            return Decimal {
-                value,
-                next: at + 1,
-            };
+    }
+    (value, &[])
+}
+
+pub(crate) fn byte_of(number: u64) -> u8 {
+    (number & 0xff) as u8
+}
+
+pub(crate) fn u32_of(number: u64) -> u32 {
+    (number & 0xffff_ffff) as u32
+}
+
+// The numbers of a text, one after the other.
+#[derive(Drop)]
+pub(crate) struct Numbers<'a>(pub(crate) &'a [u8]);
+
+impl Iterator for Numbers<'_> {
+    type Item = u64;
+
+    ghost remaining = { λ s. at_most (length s.0.now) };
+
+    fn next(&mut self) -> Option<u64> {
+        if self.0.is_empty() {
+            return None;
         }
-        value = value * 10 + d;
-        at += 1;
-    }
-    Decimal { value, next: at }
-}
-
-fn least(n: u64, most: usize) -> usize
-    ensures { result ≤ most }
-{
-    let m = n as usize;
-    if m < most { m } else { most }
-}
-
-// Reads how many elements there are, how many of them are given, and these; the rest keep what they had.
-pub(crate) fn bytes(text: &[u8], start: usize, out: &mut [u8]) -> Filled {
-    let total = number(text, start);
-    let given = number(text, total.next);
-    let mut next = given.next;
-    let most = least(given.value, out.len());
-    let mut i: usize = 0;
-    while i < most {
-        let n = number(text, next);
-        out[i] = (n.value % 256) as u8;
-        next = n.next;
-        i += 1;
-    }
-    Filled {
-        count: total.value as usize,
-        next,
+        let (number, rest) = first_number(self.0);
+        self.0 = rest;
+        Some(number)
     }
 }
 
-// The same for numbers of 32 bits.
-pub(crate) fn numbers(text: &[u8], start: usize, out: &mut [u32]) -> Filled {
-    let total = number(text, start);
-    let given = number(text, total.next);
-    let mut next = given.next;
-    let most = least(given.value, out.len());
-    let mut i: usize = 0;
-    while i < most {
-        let n = number(text, next);
-        out[i] = (n.value % 4294967296) as u32;
-        next = n.next;
-        i += 1;
+impl Numbers<'_> {
+    // The next number. A number that a recorded call lacks is 0, as compare/record has it.
+    pub(crate) fn number(&mut self) -> u64 {
+        self.next().unwrap_or(0)
     }
-    Filled {
-        count: total.value as usize,
-        next,
+
+    // An array: how many elements it has, how many of them are given, and these; the others are `other`. None where it has more than `most`.
+    pub(crate) fn array<T: Copy, F: Fn(u64) -> T>(
+        &mut self,
+        alloc: Global,
+        most: usize,
+        other: T,
+        element: F,
+    ) -> Result<Option<Vec<T>>, AllocError>
+        requires { F.IsAlwaysCallable element }
+    {
+        let len = self.number() as usize;
+        let given = self.number() as usize;
+        let mut elements = Vec::new(alloc);
+        for _ in 0..given.min(most) {
+            elements.push(element(self.number()))?;
+        }
+        if len > most {
+            return Ok(None);
+        }
+        elements.resize(len, other)?;
+        Ok(Some(elements))
+    }
+
+    // An array of bytes.
+    pub(crate) fn bytes(
+        &mut self,
+        alloc: Global,
+        most: usize,
+        other: u8,
+    ) -> Result<Option<Vec<u8>>, AllocError> {
+        self.array(alloc, most, other, byte_of)
     }
 }

@@ -3,109 +3,37 @@
 // are made by `compare/record`, which says what each number means.
 #![tactic(auto)]
 
+mod call;
 mod input;
+mod library;
+mod line;
 mod lists;
 mod sets;
 
-use input::{bytes, number, numbers};
-use lists::replay_list;
-use sets::replay_set;
+use call::Call;
+use input::Numbers;
 use std::io::{self, Read};
 
-fn write_number(rt: &impl Print, n: usize) -> io::Result<()> {
-    rt.print(n as u64)
-}
-
-fn end_line(rt: &impl Print) -> io::Result<()> {
-    rt.write_all(b"\n")
-}
-
-fn write_two(rt: &impl Print, a: usize, b: usize) -> io::Result<()> {
-    write_number(rt, a)?;
-    rt.write_all(b" ")?;
-    write_number(rt, b)?;
-    end_line(rt)
-}
-
-fn write_block_line(rt: &impl Print, answer: attr_list::BlockLine) -> io::Result<()> {
-    match answer {
-        attr_list::BlockLine::Refused(refused) => write_two(rt, refused, 0),
-        attr_list::BlockLine::Is(yes) => {
-            if yes {
-                write_two(rt, 0, 1)
-            } else {
-                write_two(rt, 0, 0)
-            }
+// Each call takes at least one byte, so there are no more calls than bytes.
+fn replay(rt: &(impl Print + AllocGlobal), recorded: &[u8]) -> io::Result<()> {
+    let mut numbers = Numbers(recorded);
+    for _ in 0..recorded.len() {
+        let Some(number) = numbers.next() else {
+            break;
+        };
+        match Call::try_from(number) {
+            Ok(Call::List(entry)) => lists::replay_list(rt, &mut numbers, entry)?,
+            Ok(Call::IsBlock) => lists::replay_is_block(rt, &mut numbers)?,
+            Ok(Call::Customize(mode)) => sets::replay_set(rt, &mut numbers, Some(mode))?,
+            // It is passed over, with the numbers that a call of from_meta has.
+            Err(_) => sets::replay_set(rt, &mut numbers, None)?,
         }
-    }
-}
-
-// Calls what `entry` names on the first so many elements of each array.
-fn call<'a>(
-    rt: &impl Print,
-    entry: u64,
-    kinds: &'a [u8],
-    k: usize,
-    text: &'a [u8],
-    t: usize,
-    pairs: &'a [u32],
-    p: usize,
-) -> io::Result<()> {
-    if k > kinds.len() {
-        return Ok(());
-    }
-    if t > text.len() {
-        return Ok(());
-    }
-    if p > pairs.len() {
-        return Ok(());
-    }
-    if entry == 5 {
-        write_block_line(
-            rt,
-            attr_list::is_block_attr_list(&kinds[..k], &text[..t], &pairs[..p]),
-        )?;
-    }
-    Ok(())
-}
-
-// A recorded call that takes a line: its kinds, its pairs and its text. Answers where the next call starts.
-fn replay_line(rt: &impl Print, recorded: &[u8], entry: u64, start: usize) -> io::Result<usize> {
-    let mut kinds = [10u8; 4100];
-    let mut pairs = [0u32; 8200];
-    let mut text = [97u8; 65540];
-    let k = bytes(recorded, start, &mut kinds);
-    let p = numbers(recorded, k.next, &mut pairs);
-    let t = bytes(recorded, p.next, &mut text);
-    call(rt, entry, &kinds, k.count, &text, t.count, &pairs, p.count)?;
-    Ok(t.next)
-}
-
-fn replay_call(rt: &impl Print, recorded: &[u8], entry: u64, start: usize) -> io::Result<usize> {
-    if entry < 5 {
-        return replay_list(rt, recorded, entry, start);
-    }
-    if entry < 6 {
-        return replay_line(rt, recorded, entry, start);
-    }
-    replay_set(rt, recorded, entry, start)
-}
-
-fn replay(rt: &impl Print, recorded: &[u8]) -> io::Result<()> {
-    let mut at: usize = 0;
-    while at < recorded.len() {
-        let entry = number(recorded, at);
-        let next = replay_call(rt, recorded, entry.value, entry.next)?;
-        if next <= at {
-            return Ok(());
-        }
-        at = next;
     }
     Ok(())
 }
 
 fn main(rt: HostRuntime) -> io::Result<()> {
     let mut recorded = Vec::new(rt.alloc());
-    rt.reader().take(400000).read_to_end(&mut recorded)?;
-    replay(&rt, recorded.as_slice())
+    rt.reader().take(400_000).read_to_end(&mut recorded)?;
+    replay(&rt, &recorded)
 }

@@ -1,1 +1,3 @@
 pub mod Row
+pub mod Tag
+pub mod Diagnostic

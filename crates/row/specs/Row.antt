@@ -4,51 +4,54 @@ use Rattle.std.proofs.lemmas.List.Edits.{sets}
 use Rattle.token.specs.declared.Run.{Run}
 use Rattle.token.specs.Line.{run, empty_run}
 use Rattle.row.specs.declared.Row.{Row}
+use Rattle.row.specs.declared.tag.Tag.{Tag}
+use Rattle.row.specs.declared.tag.Tag.TheVariants as tag
+use Rattle.row.specs.Tag.{tag_number}
 
 -- "A row is five numbers: tag, then two runs, unused ones 0."
 abbrev pub width : ℕ
 width = 5
 
 abbrev pub numbers : Row → List ℕ
-numbers r = r.tag ∷ r.first.place.0 ∷ r.first.count ∷ r.second.place.0 ∷ r.second.count ∷ []
+numbers r = tag_number r.tag ∷ r.first.place.0 ∷ r.first.count ∷ r.second.place.0 ∷ r.second.count ∷ []
 
-abbrev pub two_runs : (tag : ℕ) → (first second : Run) → Row
-two_runs tag a b = record { tag = tag; first = a; second = b }
+abbrev pub two_runs : Tag → (first second : Run) → Row
+two_runs t a b = record { tag = t; first = a; second = b }
 
-abbrev pub one_run : (tag : ℕ) → Run → Row
-one_run tag r = two_runs tag r empty_run
+abbrev pub one_run : Tag → Run → Row
+one_run t r = two_runs t r empty_run
 
 -- "Tags: 1 empty positional; 2 positional run; 3 named, name then value, value under `attr_value`; 4 id; 5 role; 6 option; 7 diagnostic (place,
 -- number, 0, 0); 8 named `subs` or `cols`, value under `none`."
 abbrev pub empty_positional : Row
-empty_positional = one_run 1 empty_run
+empty_positional = one_run tag.EmptyPositional empty_run
 
 abbrev pub positional : Run → Row
-positional = one_run 2
+positional = one_run tag.Positional
 
 abbrev pub named : (name value : Run) → Row
-named = two_runs 3
+named = two_runs tag.Named
 
 abbrev pub ident : Run → Row
-ident = one_run 4
+ident = one_run tag.Id
 
 abbrev pub role : Run → Row
-role = one_run 5
+role = one_run tag.Role
 
 abbrev pub option : Run → Row
-option = one_run 6
+option = one_run tag.Option
 
 abbrev pub diagnostic : (place number : ℕ) → Row
-diagnostic p n = one_run 7 (run p n)
+diagnostic p n = one_run tag.Diagnostic (run p n)
 
 abbrev pub plain : (name value : Run) → Row
-plain = two_runs 8
+plain = two_runs tag.Plain
 
--- the tags of these rows, in this order
+-- the numbers of the tags of these rows, in this order
 abbrev pub tags : List ℕ
 tags =
-    empty_positional.tag ∷ (positional empty_run).tag ∷ (named empty_run empty_run).tag ∷ (ident empty_run).tag ∷ (role empty_run).tag ∷ (option empty_run).tag ∷ (diagnostic 0 0).tag
-    ∷ (plain empty_run empty_run).tag ∷ []
+    tag_number empty_positional.tag ∷ tag_number (positional empty_run).tag ∷ tag_number (named empty_run empty_run).tag ∷ tag_number (ident empty_run).tag ∷ tag_number (role empty_run).tag
+    ∷ tag_number (option empty_run).tag ∷ tag_number (diagnostic 0 0).tag ∷ tag_number (plain empty_run empty_run).tag ∷ []
 
 -- the numbers of some rows, one row after the other
 unfoldable pub all_numbers : List Row → List ℕ

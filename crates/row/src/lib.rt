@@ -5,17 +5,20 @@ ghost use Rattle.std.specs.Prelude.{◌≡◌, ◌+◌, ◌*◌, ◌≤◌, leng
 ghost use Rattle.std.proofs.lemmas.List.Edits.{sets};
 ghost use Rattle.row.specs.Row.{width, numbers, one_run, room_for, Fits};
 
-use token::{Run, TokenPlace};
+use tag::Tag;
+use token::Run;
 
+pub mod diagnostic;
 pub mod tag;
 
 // How many numbers a row has.
 pub const WIDTH: usize = 5;
 
-// A row: its tag, then two runs; an unused run is empty.
-#[derive(Clone, Copy)]
+// A row: its tag, then two runs; an unused run is empty. That its numbers fit the buffer's is no fact of the type, since the rules make rows of any runs:
+// `Fits` stands in the contracts.
+#[derive(Clone, Copy, Debug, PartialEq, Eq)]
 pub struct Row {
-    pub tag: u32,
+    pub tag: Tag,
     pub first: Run,
     pub second: Run,
 }
@@ -34,33 +37,28 @@ pub fn has_room(room: usize, tokens: usize) -> bool
     tokens <= room / WIDTH
 }
 
-// Writes a row as row `at` of the buffer; every other number keeps what it had.
-pub fn put_row(rows: &mut [u32], at: usize, row: Row)
-    requires { (width * at + width ≤ length rows.old) × Fits row }
-    ensures { rows.new ≡ sets rows.old (width * at) (numbers row) }
-{
-    let first = row.first;
-    let second = row.second;
-    let a = first.place;
-    let b = second.place;
-    let i = WIDTH * at;
-    rows[i] = row.tag;
-    rows[i + 1] = a.0 as u32;
-    rows[i + 2] = first.count as u32;
-    rows[i + 3] = b.0 as u32;
-    rows[i + 4] = second.count as u32;
-}
+impl Row {
+    // A row of one run.
+    pub fn one_run(tag: Tag, run: Run) -> Row
+        ensures { result ≡ one_run tag run }
+    {
+        Row {
+            tag,
+            first: run,
+            second: Run::EMPTY,
+        }
+    }
 
-// A row of one run.
-pub fn one_run(tag: u32, run: Run) -> Row
-    ensures { result ≡ one_run tag run }
-{
-    Row {
-        tag,
-        first: run,
-        second: Run {
-            place: TokenPlace(0),
-            count: 0,
-        },
+    // Writes it as row `at` of the buffer; every other number keeps what it had.
+    pub fn put(self, rows: &mut [u32], at: usize)
+        requires { (width * at + width ≤ length rows.old) × Fits self }
+        ensures { rows.new ≡ sets rows.old (width * at) (numbers self) }
+    {
+        let i = WIDTH * at;
+        rows[i] = u32::from(self.tag);
+        rows[i + 1] = self.first.place.0 as u32;
+        rows[i + 2] = self.first.count as u32;
+        rows[i + 3] = self.second.place.0 as u32;
+        rows[i + 4] = self.second.count as u32;
     }
 }

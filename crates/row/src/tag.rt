@@ -1,35 +1,65 @@
 // The tags of rows.
 ghost use Rattle.std.specs.Prelude.{◌≡◌};
 ghost use Rattle.row.specs.Row.{tags};
+ghost use Rattle.row.specs.Tag.{Decodes, Gives};
 
-pub const EMPTY_POSITIONAL: u32 = 1;
+// `tag as u32` is its number.
+#[derive(Clone, Copy, Debug, PartialEq, Eq)]
+pub enum Tag {
+    EmptyPositional = 1,
+    Positional,
+    Named,
+    Id,
+    Role,
+    Option,
+    Diagnostic,
+    Plain,
+}
 
-pub const POSITIONAL: u32 = 2;
+impl From<Tag> for u32 {
+    ghost from_gives = { Gives };
 
-pub const NAMED: u32 = 3;
+    fn from(tag: Tag) -> u32 {
+        tag as u32
+    }
+}
 
-pub const ID: u32 = 4;
+// A number that is no row's tag.
+#[derive(Clone, Copy, Debug, PartialEq, Eq)]
+pub struct NotATag(pub u32);
 
-pub const ROLE: u32 = 5;
+impl TryFrom<u32> for Tag {
+    type Error = NotATag;
 
-pub const OPTION: u32 = 6;
+    ghost try_from_gives = { Decodes };
 
-pub const DIAGNOSTIC: u32 = 7;
-
-pub const PLAIN: u32 = 8;
+    fn try_from(number: u32) -> Result<Self, NotATag> {
+        match number {
+            1 => Ok(Tag::EmptyPositional),
+            2 => Ok(Tag::Positional),
+            3 => Ok(Tag::Named),
+            4 => Ok(Tag::Id),
+            5 => Ok(Tag::Role),
+            6 => Ok(Tag::Option),
+            7 => Ok(Tag::Diagnostic),
+            8 => Ok(Tag::Plain),
+            _ => Err(NotATag(number)),
+        }
+    }
+}
 
 // Every tag, in the order of document 01.
 pub fn all() -> [u32; 8]
     ensures { result ≡ tags }
 {
     [
-        EMPTY_POSITIONAL,
-        POSITIONAL,
-        NAMED,
-        ID,
-        ROLE,
-        OPTION,
-        DIAGNOSTIC,
-        PLAIN,
+        Tag::EmptyPositional as u32,
+        Tag::Positional as u32,
+        Tag::Named as u32,
+        Tag::Id as u32,
+        Tag::Role as u32,
+        Tag::Option as u32,
+        Tag::Diagnostic as u32,
+        Tag::Plain as u32,
     ]
 }

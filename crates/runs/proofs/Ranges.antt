@@ -2,9 +2,10 @@
 use Prim.Native.Nat.{ℕ, zero, suc, ◌+◌, ◌-◌, ◌≤◌, ◌<◌}
 use native.Mathlib.Omega.{arith}
 use native.Mathlib.Decide.{dec_lt}
-use mathlib.Core.Bool.{Bool, true, false}
+use mathlib.Core.Bool.{Bool, true, false, ◌||◌}
 use mathlib.Core.Path.{◌≡◌, refl, sym, ap, subst, ◌∙◌}
 use mathlib.Core.List.{List, [], ◌∷◌, ◌++◌, append-nil}
+use mathlib.Core.Logic.{◌⊎◌, inl, inr}
 use lib.Dec.{eqb}
 use lib.ListN.{length, get_or, length-append}
 use borrow.Author.Tests.{eqb-true, eqb-false, lt-ltb, le-ltb}
@@ -158,6 +159,40 @@ module _ (kinds : List ℕ) (from to i : ℕ) (h : from < i) (shut : get_or kind
       right-done trim_end kinds from to i
       (λ text pairs. ap trim_end (kept-last (line_of kinds text pairs) from i h shut) ∙ trim_end-stop (kept (line_of kinds text pairs) from (i - 1)) (token_at (line_of kinds text pairs) (i - 1)) (not-kind (line_of kinds text pairs) (i - 1) whitespace e) ∙ sym (kept-last (line_of kinds text pairs) from i h shut))
       (λ lt. shut) w
+
+-- ---- a token that is passed is an AttrRef or Whitespace
+
+module _ (k : ℕ) where
+  pub passed : (eqb k attr_ref || eqb k whitespace) ≡ true → (k ≡ attr_ref) ⊎ ((k ≡ attr_ref → ⊥) × (k ≡ whitespace))
+  passed e = go (eqb k attr_ref) (eqb k whitespace) refl refl e
+    where
+      go : (a b : Bool) → eqb k attr_ref ≡ a → eqb k whitespace ≡ b → (a || b) ≡ true → (k ≡ attr_ref) ⊎ ((k ≡ attr_ref → ⊥) × (k ≡ whitespace))
+      go true b f g h = inl (eqb-true _ _ f)
+      go false true f g h = inr (eqb-false _ _ f, eqb-true _ _ g)
+      go false false f g h = absurd (let z : ◌≡◌ {A = ℕ} 0 1 = cc in omega arith)
+
+  pub stopped : (eqb k attr_ref || eqb k whitespace) ≡ false → (k ≡ attr_ref → ⊥) × (k ≡ whitespace → ⊥)
+  stopped e = go (eqb k attr_ref) (eqb k whitespace) refl refl e
+    where
+      go : (a b : Bool) → eqb k attr_ref ≡ a → eqb k whitespace ≡ b → (a || b) ≡ false → (k ≡ attr_ref → ⊥) × (k ≡ whitespace → ⊥)
+      go true b f g h = absurd (let z : ◌≡◌ {A = ℕ} 0 1 = cc in omega arith)
+      go false true f g h = absurd (let z : ◌≡◌ {A = ℕ} 0 1 = cc in omega arith)
+      go false false f g h = (eqb-false _ _ f, eqb-false _ _ g)
+
+module _ (kinds : List ℕ) (from to i : ℕ) where
+  pub left-passed : i < to → (eqb (get_or kinds i 0) attr_ref || eqb (get_or kinds i 0) whitespace) ≡ true → Left trim_start kinds from to i → Left trim_start kinds from to (i + 1)
+  left-passed h e w = elim (passed (get_or kinds i 0) e) [ inl f ↦ left-skip trim_start kinds from to i h f w | inr f ↦ left-space kinds from to i h f.0 w f.1 ]
+
+  pub right-passed : from < i → (eqb (get_or kinds (i - 1) 0) attr_ref || eqb (get_or kinds (i - 1) 0) whitespace) ≡ true → Right trim_end kinds from to i → Right trim_end kinds from to (i - 1)
+  right-passed h e w = elim (passed (get_or kinds (i - 1) 0) e) [ inl f ↦ right-skip trim_end kinds from to i h f w | inr f ↦ right-space kinds from to i h f.0 w f.1 ]
+
+-- ---- the same of other kinds and another end that are equal to these
+
+pub starts-over : {f : List Token → List Token} {ks ls : List ℕ} {from to end r : ℕ} → ks ≡ ls → to ≡ end → StartsAt f ks from to r → StartsAt f ls from end r
+starts-over {f = f} {ks = ks} {from = from} {end = end} {r = r} e g w = subst (λ (xs : List ℕ). StartsAt f xs from end r) e (subst (λ (n : ℕ). StartsAt f ks from n r) g w)
+
+pub ends-over : {f : List Token → List Token} {ks ls : List ℕ} {from to end s : ℕ} → ks ≡ ls → to ≡ end → EndsAt f ks from to s → EndsAt f ls from end s
+ends-over {f = f} {ks = ks} {from = from} {end = end} {s = s} e g w = subst (λ (xs : List ℕ). EndsAt f xs from end s) e (subst (λ (n : ℕ). EndsAt f ks from n s) g w)
 
 -- ---- both: the run between a and b
 

@@ -1,5 +1,5 @@
 -- Names by their bytes.
-use Rattle.std.specs.Prelude.{ℕ, Bool, true, false, ◌&&◌, List, [], ◌∷◌, ◌++◌, eqb}
+use Rattle.std.specs.Prelude.{ℕ, Bool, true, false, ◌&&◌, ◌≡◌, List, [], ◌∷◌, ◌++◌, eqb, length, drop, Option, None, Some}
 use Rattle.token.specs.Line.{Token}
 
 -- the bytes of some tokens, one after the other
@@ -18,3 +18,8 @@ unfoldable pub prefix : List ℕ → List ℕ → Bool
 prefix [] bs = true
 prefix (a ∷ xs) [] = false
 prefix (a ∷ xs) (b ∷ bs) = eqb a b && prefix xs bs
+
+-- what is left of the second list behind the first, if it begins with that
+abbrev pub Stripped : (start name : List ℕ) → Option (List ℕ) → Type 0
+Stripped start name None = prefix start name ≡ false
+Stripped start name (Some left) = (prefix start name ≡ true) × (left ≡ drop (length start) name)

@@ -1,70 +1,55 @@
 // Names by the bytes of their tokens, which are not copied.
-ghost use Rattle.std.specs.Prelude.{◌≡◌, ◌+◌, ◌*◌, ◌≤◌, ◌<◌, length, drop};
-ghost use Rattle.token.specs.Line.{end_in, lexeme_in};
-ghost use Rattle.token.specs.Lent.{Lent, line};
+ghost use Rattle.std.specs.Prelude.{◌≡◌};
+ghost use Rattle.std.specs.Option.{option_copied};
+ghost use Rattle.token.specs.Checked.{line_in};
 ghost use Rattle.runs.specs.Run.{is_whitespace, without, kept};
-ghost use Rattle.runs.specs.Names.{bytes, same_bytes, prefix};
+ghost use Rattle.runs.specs.Names.{bytes, same_bytes, prefix, Stripped};
 
+use crate::is_passed;
+use crate::places::Tokens;
 use token::TokenPlace;
-use token::kind::{ATTR_REF, WHITESPACE};
-use token::line::{length_of, offset_of};
 
 // Whether `name` begins with `start`.
-fn starts_with<'a>(start: &'a [u8], name: &'a [u8]) -> bool
+fn starts_with(start: &[u8], name: &[u8]) -> bool
     ensures { result ≡ prefix start.now name.now }
 {
-    let mut i: usize = 0;
-    while i < start.len() {
-        if name.len() <= i {
-            return false;
-        }
+    if name.len() < start.len() {
+        return false;
+    }
+    for i in 0..start.len() {
         if start[i] != name[i] {
             return false;
         }
-        i += 1;
     }
     true
 }
 
-// Whether what is left of `name` from `at` on begins with the lexeme of a token.
-fn goes_on<'a>(text: &'a [u8], pairs: &'a [u32], p: TokenPlace, name: &'a [u8], at: usize) -> bool
-    requires { (2 * p.0 + 1 < length pairs.now) × (end_in pairs.now p.0 ≤ length text.now) × (at ≤ length name.now) }
-    ensures { result ≡ prefix (lexeme_in text.now pairs.now p.0) (drop at name.now) }
+// What is left of `name` behind `start`, if it begins with that. The library's `strip_prefix` was tried: it is a call for each name that is asked for,
+// and the four readings took a quarter longer.
+fn strip_prefix<'a>(name: &'a [u8], start: &[u8]) -> Option<&'a [u8]>
+    ensures { Stripped start.now name.now (option_copied result) }
 {
-    let offset = offset_of(pairs, p);
-    let start = offset.0;
-    let end = start + length_of(pairs, p);
-    starts_with(&text[start..end], &name[at..])
+    if !starts_with(start, name) {
+        return None;
+    }
+    Some(&name[start.len()..])
 }
 
-// Whether the bytes of the tokens kept from `from` up to `to`, less Whitespace, are `name`.
-pub fn name_is<'a>(
-    kinds: &'a [u8],
-    text: &'a [u8],
-    pairs: &'a [u32],
-    from: TokenPlace,
-    to: TokenPlace,
-    name: &'a [u8],
-) -> bool
-    requires lent { Lent kinds.now text.now pairs.now }
-    requires from_le_to { (from.0 ≤ to.0) × (to.0 ≤ length kinds.now) }
-    ensures { result ≡ same_bytes (bytes (without is_whitespace (kept (line kinds.entry text.entry pairs.entry) from.0 to.0))) name.now }
-{
-    let end = to.0;
-    let mut i = from.0;
-    let mut at: usize = 0;
-    while i < end {
-        match kinds[i] {
-            ATTR_REF => i += 1,
-            WHITESPACE => i += 1,
-            _ => {
-                if !goes_on(text, pairs, TokenPlace(i), name, at) {
-                    return false;
-                }
-                at += length_of(pairs, TokenPlace(i));
-                i += 1;
+impl<'a> Tokens<'a> {
+    // Whether the bytes of the kept tokens, less Whitespace, are `name`.
+    pub fn name_is(self, name: &[u8]) -> bool
+        ensures { result ≡ same_bytes (bytes (without is_whitespace (kept (line_in self.entry.line) self.entry.from.0 self.entry.to.0))) name.now }
+    {
+        let mut rest = name;
+        for i in self.from.0..self.to.0 {
+            if is_passed(self.line.kinds[i]) {
+                continue;
             }
+            let Some(left) = strip_prefix(rest, self.line.lexeme(TokenPlace(i))) else {
+                return false;
+            };
+            rest = left;
         }
+        rest.is_empty()
     }
-    at == name.len()
 }

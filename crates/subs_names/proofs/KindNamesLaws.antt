@@ -1,10 +1,9 @@
 -- A kind's name is found again, as the name of that kind.
-use Rattle.std.specs.Prelude.{◌≡◌, refl}
+use Rattle.std.specs.Prelude.{◌≡◌, refl, Some}
 use Rattle.substitutions.specs.declared.Subs.{Subs}
 use Rattle.substitutions.specs.declared.Subs.TheVariants as kind
 use Rattle.subs_names.specs.declared.StepOrGroup.{StepOrGroup}
 use Rattle.subs_names.specs.declared.StepOrGroup.TheVariants as step
-use Rattle.subs_names.specs.declared.Lookup.TheVariants.{Found}
 use Rattle.subs_names.specs.Names.{same, lookup_of}
 use Rattle.subs_names.specs.KindNames.{name_of}
 
@@ -17,7 +16,7 @@ step_of kind.Macros = step.Macros
 step_of kind.PostReplacement = step.PostReplacements
 step_of kind.Callouts = step.Callouts
 
-pub name-found : (sub : Subs) → lookup_of (name_of sub) ≡ Found (step_of sub)
+pub name-found : (sub : Subs) → lookup_of (name_of sub) ≡ Some (step_of sub)
 unfolding lookup_of same
 name-found kind.SpecialChars = refl
 name-found kind.InlineFormatting = refl

@@ -5,6 +5,8 @@ use Rattle.std.proofs.Math.Seq.{drop-cons}
 use Rattle.std.proofs.Math.Numerals.{add-one}
 use borrow.Author.Tests.{eq-eqb, ne_eqb}
 use Rattle.std.proofs.Math.Bool.{and-false}
+use Rattle.std.specs.Cmp.Lexicographic.{pointwise}
+use Rattle.std.proofs.Common.{nat_eq}
 use Rattle.subs_names.specs.Names.{same}
 
 pub same-lengths : (a b : List ℕ) → (length a ≡ length b → ⊥) → false ≡ same a b
@@ -26,3 +28,11 @@ module _ (a b : List ℕ) (i : ℕ) (la : i < length a) (lb : i < length b) wher
 pub same_end : (a b : List ℕ) (i : ℕ) → length a ≤ i → length b ≤ i → true ≡ same (drop i a) (drop i b)
 unfolding same
 same_end a b i ha hb = rw (drop_of_length-le a ha, drop_of_length-le b hb)
+
+-- `same` is the equality of slices.
+pub same_is : (a b : List ℕ) → pointwise nat_eq a b ≡ same a b
+unfolding same
+same_is [] [] = refl
+same_is [] (b ∷ bs) = refl
+same_is (a ∷ l) [] = refl
+same_is (a ∷ l) (b ∷ bs) = rw (same_is l bs)

@@ -1,8 +1,8 @@
 -- The names that a part of the subs text may have, byte for byte.
-use Rattle.std.specs.Prelude.{ℕ, Bool, true, false, cond, ◌&&◌, List, [], ◌∷◌, eqb}
+use Rattle.std.specs.Prelude.{ℕ, Bool, true, false, cond, ◌&&◌, List, [], ◌∷◌, eqb, Option, Some}
+use Rattle.std.specs.Prelude as found
+use Rattle.subs_names.specs.declared.StepOrGroup.{StepOrGroup}
 use Rattle.subs_names.specs.declared.StepOrGroup.TheVariants.{None, Normal, Verbatim, SpecialChars, Callouts, Quotes, Attributes, Replacements, Macros, PostReplacements}
-use Rattle.subs_names.specs.declared.Lookup.{Lookup}
-use Rattle.subs_names.specs.declared.Lookup.TheVariants.{Found, Unknown}
 
 abbrev pub none : List ℕ
 none = 110 ∷ 111 ∷ 110 ∷ 101 ∷ []
@@ -42,16 +42,16 @@ same (a ∷ l) [] = false
 same (a ∷ l) (b ∷ bs) = eqb a b && same l bs
 
 -- The seven kinds, none, normal and verbatim; any other name is not in the list.
-unfoldable pub lookup_of : List ℕ → Lookup
+unfoldable pub lookup_of : List ℕ → Option StepOrGroup
 lookup_of name =
-    cond (same name none) (Found None)
-    (cond (same name normal) (Found Normal)
-    (cond (same name verbatim) (Found Verbatim)
-    (cond (same name specialchars) (Found SpecialChars)
-    (cond (same name callouts) (Found Callouts)
-    (cond (same name quotes) (Found Quotes)
-    (cond (same name attributes) (Found Attributes)
-    (cond (same name replacements) (Found Replacements)
-    (cond (same name macros) (Found Macros)
-    (cond (same name post_replacements) (Found PostReplacements)
-    Unknown)))))))))
+    cond (same name none) (Some None)
+    (cond (same name normal) (Some Normal)
+    (cond (same name verbatim) (Some Verbatim)
+    (cond (same name specialchars) (Some SpecialChars)
+    (cond (same name callouts) (Some Callouts)
+    (cond (same name quotes) (Some Quotes)
+    (cond (same name attributes) (Some Attributes)
+    (cond (same name replacements) (Some Replacements)
+    (cond (same name macros) (Some Macros)
+    (cond (same name post_replacements) (Some PostReplacements)
+    found.None)))))))))

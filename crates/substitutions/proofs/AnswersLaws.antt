@@ -1,17 +1,21 @@
 -- What the code of the moves and of the refusals returns is what the definitions say: one law for each way through.
-use Rattle.std.specs.Prelude.{ℕ, zero, suc, ◌+◌, ◌-◌, ◌≤◌, ◌<◌, ◌≡◌, refl, Bool, true, false, cond, ◌&&◌, List, [], ◌∷◌, eqb, length}
-use Rattle.std.proofs.Common.{sym, arith}
+use Rattle.std.specs.Prelude.{ℕ, zero, suc, ◌+◌, ◌-◌, ◌≤◌, ◌<◌, ◌≡◌, refl, Bool, true, false, cond, ◌&&◌, List, [], ◌∷◌, eqb, length, Option, Some, None}
+use Rattle.std.proofs.Common.{sym, ◌∙◌, arith}
 use borrow.Author.Tests.{ne_eqb, eqb-true, lt-ltb, le-ltb}
+use Rattle.std.specs.Option.{option_eq}
+use Rattle.refusals.specs.declared.Refusal.{Refusal}
+use Rattle.refusals.specs.declared.Refusal.TheVariants.{NoTokens, TooManyTokens, TextTooLong, PairsNotTwo, KindTooLarge, PairsNotInOrder, RowsTooShort, NoClosingBracket, SubsTextTooLong, SetNotHeld, SetNotSound}
+use Rattle.refusals.specs.Numbered.{number_of as refused_by}
 use Rattle.refusals.specs.Refusals.{set_not_held, set_not_sound}
 use Rattle.substitutions.specs.declared.Substitutions.{Substitutions}
 use Rattle.substitutions.specs.declared.Mode.{Mode}
 use Rattle.substitutions.specs.declared.Mode.TheVariants.{Port, Sheet}
 use Rattle.substitutions.specs.Kinds.{flag_of, flagged}
 use Rattle.substitutions.specs.Held.{held, sound, empty}
-use Rattle.substitutions.specs.Moves.{set, filled, without, led, insert_of, remove_of, prepend_of, refusal_of, answer}
+use Rattle.substitutions.specs.Moves.{set, filled, without, led, insert_of, remove_of, prepend_of, refusal_of, refused_with, answer}
 use Rattle.substitutions.proofs.KindsLaws.{and_left, and_right}
 use Rattle.substitutions.proofs.HeldLaws.{held-is, sound-is}
-use Rattle.substitutions.specs.Loops.{left, unclaimed_flags, few, normal_places}
+use Rattle.substitutions.specs.Loops.{left, unclaimed_flags, few, normal_places, Leaves}
 
 pub few-not : (f : ℕ) → (f ≡ 0 → ⊥) → (f ≡ 1 → ⊥) → (f ≡ 2 → ⊥) → (f ≡ 4 → ⊥) → (f ≡ 8 → ⊥) → (f ≡ 16 → ⊥) → (f ≡ 32 → ⊥) → (f ≡ 64 → ⊥)
     → few f ≡ false
@@ -26,6 +30,15 @@ left-big s h = rw (le-ltb s.flags 128 h)
 pub left-small : (s : Substitutions) → s.flags < 128 → left s.flags s.places ≡ unclaimed_flags s
 unfolding unclaimed_flags
 left-small s h = rw (lt-ltb s.flags 128 h)
+
+-- What the code gives, of equal numbers.
+pub leaves : (r : Option ℕ) (m n : ℕ) → Leaves r m → m ≡ n → Leaves r n
+leaves None m n e q = e ∙ q
+leaves (Some f) m n e q = e ∙ q
+
+pub leaves-none : (r : Option ℕ) (n : ℕ) → Leaves r n → option_eq eqb r (Some 0) ≡ eqb n 0
+leaves-none None n e = rw (sym e)
+leaves-none (Some f) n e = rw (sym e)
 
 -- The normal set has no flag left over.
 normal-places : (ps : List ℕ) → length ps ≡ 7 → normal_places ps ≡ true → ps ≡ 1 ∷ 2 ∷ 3 ∷ 4 ∷ 5 ∷ 6 ∷ 0 ∷ []
@@ -92,6 +105,20 @@ accepted Sheet s e = by (held s) (sound s) e
     by true u q = refl
     by false u q = absurd (omega arith)
 
+-- No refusal has the number 0.
+pub refused-nonzero : (e : Refusal) → refused_by e ≡ 0 → ⊥
+refused-nonzero NoTokens z = absurd (omega arith)
+refused-nonzero TooManyTokens z = absurd (omega arith)
+refused-nonzero TextTooLong z = absurd (omega arith)
+refused-nonzero PairsNotTwo z = absurd (omega arith)
+refused-nonzero KindTooLarge z = absurd (omega arith)
+refused-nonzero PairsNotInOrder z = absurd (omega arith)
+refused-nonzero RowsTooShort z = absurd (omega arith)
+refused-nonzero NoClosingBracket z = absurd (omega arith)
+refused-nonzero SubsTextTooLong z = absurd (omega arith)
+refused-nonzero SetNotHeld z = absurd (omega arith)
+refused-nonzero SetNotSound z = absurd (omega arith)
+
 -- The answers: a refusal with the set given, or what the move gives.
 pub refused : (n m : ℕ) (s moved : Substitutions) → n ≡ m → (n ≡ 0 → ⊥) → record { refusal = n; set = s } ≡ answer m s moved
 unfolding answer
@@ -107,6 +134,10 @@ refusal-keeps (suc n) s moved h = refl
 pub moved_to : (m : ℕ) (s t moved : Substitutions) → m ≡ 0 → t ≡ moved → record { refusal = 0; set = t } ≡ answer m s moved
 unfolding answer
 moved_to m s t moved e q = rw (e, q)
+
+-- The outcomes: by them an answer is a refusal's number with the set given, or what the move gives.
+pub turned-away : (e : Refusal) (m : ℕ) (s moved : Substitutions) → refused_by e ≡ m → refused_with (refused_by e) s ≡ answer m s moved
+turned-away e m s moved q = refused (refused_by e) m s moved q (refused-nonzero e)
 
 -- The moves, by the numbers that the code has at hand.
 insert-at : (s : Substitutions) (n k w : ℕ) (p : List ℕ) → flagged k s.flags ≡ false → p ≡ filled n k s.places → w ≡ flag_of k

@@ -1,11 +1,12 @@
 -- A held set in numbers: no kind stands in more places than it has flags. And the one walk over the places that decides it.
-use Rattle.std.specs.Prelude.{ℕ, zero, suc, ◌+◌, ◌-◌, ◌≤◌, ◌<◌, ◌≡◌, refl, Bool, true, false, cond, ◌&&◌, ◌||◌, List, [], ◌∷◌, eqb, leb, ltb, length, get_or, drop}
-use Rattle.std.proofs.Common.{sym, ap, ◌∙◌, arith, drop_of_length-le, drop-cons}
+use Rattle.std.specs.Prelude.{ℕ, zero, suc, ◌+◌, ◌-◌, ◌≤◌, ◌<◌, ◌≡◌, refl, Bool, true, false, cond, ◌&&◌, ◌||◌, List, [], ◌∷◌, eqb, leb, ltb, length, get_or, take, drop}
+use Rattle.std.proofs.Common.{sym, ap, ◌∙◌, arith, drop_of_length-le, drop-cons, length-drop, take_all}
 use Rattle.std.proofs.lemmas.Bool.{false≢true}
 use Rattle.std.proofs.Math.Bool.{and-false}
 use Rattle.std.proofs.Math.Numerals.{add-one}
 use borrow.Author.Tests.{eqb-true, eqb-false, leb-true, ltb-true, ltb-false, eq-eqb, ne_eqb, le-leb, lt-leb, lt-ltb}
 use Rattle.std.proofs.Math.Dec.{eqb-suc-zero}
+use Rattle.std.specs.List.{list_all}
 use Rattle.substitutions.specs.declared.Substitutions.{Substitutions}
 use Rattle.substitutions.specs.Kinds.{flag_of, flagged, one, sum}
 use Rattle.substitutions.specs.Held.{times, small, empty, packed, once, covered, spare, spares, held, sound}
@@ -250,6 +251,12 @@ sound-is s seven = by (held s) refl
         rw (lt-ltb s.flags 128 (facts s q).clear, none_is (left s.flags s.places) l.0, l.1)
     by false q = sym (ne_eqb (cond (ltb s.flags 128) (left s.flags s.places) 255) 0 (λ z. false≢true (sym q ∙ held-is s seven ∙ ap few z)))
 
+-- `empty`, by the test of each place.
+pub empty_all : (ps : List ℕ) → list_all (λ p. eqb p 0) ps ≡ empty ps
+unfolding empty
+empty_all [] = refl
+empty_all (p ∷ ps) = rw (empty_all ps)
+
 -- The walk, place by place: one law for each way through a turn.
 module _ (l : List ℕ) (i : ℕ) (lt : i < length l) where
   pub empty-here : (get_or l i 0 ≡ 0 → ⊥) → false ≡ empty (drop i l)
@@ -284,3 +291,11 @@ empty-end l i h = rw (drop_of_length-le l h)
 pub left_end : (l : List ℕ) (i f : ℕ) → length l ≤ i → left f (drop i l) ≡ f
 unfolding left
 left_end l i f h = rw (drop_of_length-le l h)
+
+-- From an empty place on: all that is left if the rest is empty, as the test of each place tells.
+pub left-rest : (l : List ℕ) (i f : ℕ) (r s : Bool) → length l ≡ 7 → i < 7 → get_or l i 0 ≡ 0 → r ≡ list_all (λ p. eqb p 0) (take (7 - i) (drop i l)) → r ≡ s
+    → cond s f 255 ≡ left f (drop i l)
+left-rest l i f r s h lt z e q =
+    let m : length (drop i l) ≤ 7 - i = omega (arith, length-drop i l) in
+    let t : s ≡ empty (drop i l) = sym q ∙ e ∙ ap (λ (ps : List ℕ). list_all (λ p. eqb p 0) ps) (take_all (7 - i) (drop i l) m) ∙ empty_all (drop i l) in
+    ap (λ (b : Bool). cond b f 255) t ∙ sym (left-empty l i (omega arith) f z)

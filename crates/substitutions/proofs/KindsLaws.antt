@@ -1,17 +1,17 @@
 -- Laws of tests and sums over the kinds, and of a kind's flag in a flag byte. The facts about flags are computed over all
 -- bytes below 128 and all pairs of kinds.
-use Rattle.std.specs.Prelude.{ℕ, zero, suc, ◌+◌, ◌-◌, ◌≤◌, ◌<◌, ◌≡◌, refl, Bool, true, false, cond, ◌&&◌, eqb, leb, ltb}
-use Rattle.std.proofs.Common.{sym, arith}
+use Rattle.std.specs.Prelude.{ℕ, zero, suc, ◌+◌, ◌-◌, ◌≤◌, ◌<◌, ◌≡◌, refl, Bool, true, false, cond, ◌&&◌, eqb, leb, ltb, Result, Ok, Err}
+use Rattle.std.proofs.Common.{sym, ap, ◌∙◌, arith}
 use Rattle.std.proofs.lemmas.Bool.{false≢true}
 use borrow.Author.Tests.{eqb-true, eqb-false, leb-true, ltb-true, ne_eqb, lt-leb}
 use Rattle.substitutions.specs.declared.Subs.{Subs}
+use Rattle.substitutions.specs.declared.NotAKind.{NotAKind}
 use Rattle.substitutions.specs.declared.Subs.TheVariants.{SpecialChars, InlineFormatting, AttrRefs, CharReplacement, Macros, PostReplacement, Callouts}
-use Rattle.substitutions.specs.declared.Numbered.TheVariants.{Kind, NoKind}
 use Rattle.substitutions.specs.Kinds.{number_of, kind_of, flag_of, flagged, one, each, sum}
 use Rattle.substitutions.specs.Loops.{few}
 
 -- A kind's number names it, and a number names no other kind.
-pub kind-numbered : (sub : Subs) → kind_of (number_of sub) ≡ Kind sub
+pub kind-numbered : (sub : Subs) → kind_of (number_of sub) ≡ Ok sub
 unfolding kind_of
 kind-numbered SpecialChars = refl
 kind-numbered InlineFormatting = refl
@@ -21,10 +21,61 @@ kind-numbered Macros = refl
 kind-numbered PostReplacement = refl
 kind-numbered Callouts = refl
 
-pub no_kind : (n : ℕ) → (n ≡ 1 → ⊥) → (n ≡ 2 → ⊥) → (n ≡ 3 → ⊥) → (n ≡ 4 → ⊥) → (n ≡ 5 → ⊥) → (n ≡ 6 → ⊥) → (n ≡ 7 → ⊥) → NoKind ≡ kind_of n
+pub no_kind : (n : ℕ) → (n ≡ 1 → ⊥) → (n ≡ 2 → ⊥) → (n ≡ 3 → ⊥) → (n ≡ 4 → ⊥) → (n ≡ 5 → ⊥) → (n ≡ 6 → ⊥) → (n ≡ 7 → ⊥) → Err (record { 0 = n }) ≡ kind_of n
 unfolding kind_of
 no_kind n n1 n2 n3 n4 n5 n6 n7 =
     rw (ne_eqb n 1 n1, ne_eqb n 2 n2, ne_eqb n 3 n3, ne_eqb n 4 n4, ne_eqb n 5 n5, ne_eqb n 6 n6, ne_eqb n 7 n7)
+
+-- A kind's number is one of 1 to 7.
+pub number-low : (sub : Subs) → 1 ≤ number_of sub
+number-low SpecialChars = omega arith
+number-low InlineFormatting = omega arith
+number-low AttrRefs = omega arith
+number-low CharReplacement = omega arith
+number-low Macros = omega arith
+number-low PostReplacement = omega arith
+number-low Callouts = omega arith
+
+pub number-high : (sub : Subs) → number_of sub ≤ 7
+number-high SpecialChars = omega arith
+number-high InlineFormatting = omega arith
+number-high AttrRefs = omega arith
+number-high CharReplacement = omega arith
+number-high Macros = omega arith
+number-high PostReplacement = omega arith
+number-high Callouts = omega arith
+
+abbrev number_or_0 : Result Subs NotAKind → ℕ
+number_or_0 (Ok sub) = number_of sub
+number_or_0 (Err x) = 0
+
+-- The kind that a number names has that number, and a number that names none is over 7 or 0.
+pub kind-named : (n : ℕ) (sub : Subs) → kind_of n ≡ Ok sub → n ≡ number_of sub
+unfolding kind_of
+kind-named zero sub e = let h : 0 ≡ number_of sub = ap number_or_0 e in absurd (omega (arith, number-low sub, h))
+kind-named (suc zero) sub e = ap number_or_0 e
+kind-named (suc (suc zero)) sub e = ap number_or_0 e
+kind-named (suc (suc (suc zero))) sub e = ap number_or_0 e
+kind-named (suc (suc (suc (suc zero)))) sub e = ap number_or_0 e
+kind-named (suc (suc (suc (suc (suc zero))))) sub e = ap number_or_0 e
+kind-named (suc (suc (suc (suc (suc (suc zero)))))) sub e = ap number_or_0 e
+kind-named (suc (suc (suc (suc (suc (suc (suc zero))))))) sub e = ap number_or_0 e
+kind-named (suc (suc (suc (suc (suc (suc (suc (suc k)))))))) sub e =
+    let none = no_kind (suc (suc (suc (suc (suc (suc (suc (suc k)))))))) (λ q. omega arith) (λ q. omega arith) (λ q. omega arith) (λ q. omega arith) (λ q. omega arith) (λ q. omega arith) (λ q. omega arith) in
+    let h : 0 ≡ number_of sub = ap number_or_0 (none ∙ e) in
+    absurd (omega (arith, number-low sub, h))
+
+pub kind-none : (n : ℕ) (x : NotAKind) → kind_of n ≡ Err x → (n ≡ 0 → ⊥) → 7 < n
+unfolding kind_of
+kind-none zero x e z = absurd (z refl)
+kind-none (suc zero) x e z = let h : 1 ≡ 0 = ap number_or_0 e in absurd (omega (arith, h))
+kind-none (suc (suc zero)) x e z = let h : 2 ≡ 0 = ap number_or_0 e in absurd (omega (arith, h))
+kind-none (suc (suc (suc zero))) x e z = let h : 3 ≡ 0 = ap number_or_0 e in absurd (omega (arith, h))
+kind-none (suc (suc (suc (suc zero)))) x e z = let h : 4 ≡ 0 = ap number_or_0 e in absurd (omega (arith, h))
+kind-none (suc (suc (suc (suc (suc zero))))) x e z = let h : 5 ≡ 0 = ap number_or_0 e in absurd (omega (arith, h))
+kind-none (suc (suc (suc (suc (suc (suc zero)))))) x e z = let h : 6 ≡ 0 = ap number_or_0 e in absurd (omega (arith, h))
+kind-none (suc (suc (suc (suc (suc (suc (suc zero))))))) x e z = let h : 7 ≡ 0 = ap number_or_0 e in absurd (omega (arith, h))
+kind-none (suc (suc (suc (suc (suc (suc (suc (suc k)))))))) x e z = omega arith
 
 pub and_left : (a b : Bool) → a && b ≡ true → a ≡ true
 and_left true b e = refl

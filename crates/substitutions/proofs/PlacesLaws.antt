@@ -1,13 +1,15 @@
 -- Laws of the moves on places, one for each way through a loop's turn. `l` is the list as it stands, i places are passed.
 use Prim.Native.Nat.{ℕ, suc, ◌+◌, ◌-◌, ◌≤◌, ◌<◌}
 use Rattle.std.specs.Prelude.{◌≡◌, refl, Bool, true, false, cond, List, [], ◌∷◌, ◌++◌, eqb, length, get_or, take, drop}
-use Rattle.std.proofs.Common.{sym, ap, ◌∙◌, append-nil, take-append-drop, drop_of_length-le, take-suc-set, drop-set-lt, take_all}
+use Rattle.std.proofs.Common.{append_assoc, length-drop, sym, ap, ◌∙◌, append-nil, take-append-drop, drop_of_length-le, take-suc-set, drop-set-lt, take_all}
 use native.Mathlib.Omega.{arith}
 use Rattle.std.proofs.Math.Numerals.{add-one}
 use borrow.Author.Tests.{eq-eqb, ne_eqb}
 use Rattle.std.proofs.Math.ListN as L
+use Rattle.std.specs.List.{copy_within}
 use Rattle.std.proofs.lemmas.List.{set_split}
-use Rattle.std.proofs.Math.Seq.{drop-cons, take-suc, append_snoc, take-append_seam}
+use Rattle.std.proofs.lemmas.List.Edits.{length-paste, take-paste}
+use Rattle.std.proofs.Math.Seq.{paste, drop-cons, take-suc, append_snoc, take-append_seam}
 use Rattle.substitutions.specs.Moves.{filled, without}
 use Rattle.substitutions.specs.Loops.{closed, pushed}
 
@@ -98,3 +100,19 @@ pub filled-start : (l : List ℕ) (k n : ℕ) → take 0 l ++ filled (n - 0) k (
 filled-start l k n =
     let m : n - 0 ≡ n = omega arith in
     rw m
+
+-- What stands behind a place copied onto it, and the last place emptied.
+pub closed-copied : (l : List ℕ) (at : ℕ) → length l ≡ 7 → at < 7 → L.set (copy_within l (at + 1) (length l) at) 6 0 ≡ closed at l
+unfolding closed
+closed-copied l at e h =
+    let n : at + (length l - (at + 1)) ≡ 6 = omega arith in
+    let s : List ℕ = drop (at + 1) l in
+    let m : length s ≡ length l - (at + 1) = omega (arith, length-drop (at + 1) l) in
+    let d : List ℕ = paste l at s (length l - (at + 1)) in
+    let w : length d ≡ 7 = omega (arith, length-paste l at s (length l - (at + 1)) (omega arith) (omega arith)) in
+    let w7 : length d ≤ 7 = omega arith in
+    let t : take 6 d ≡ take at l ++ take (length l - (at + 1)) s =
+    ap (λ (i : ℕ). take i d) (sym n) ∙ take-paste l at s (length l - (at + 1)) (omega arith) (omega arith)
+    in
+    rw (set_split d 6 0 (omega arith), drop_of_length-le d w7, t, take_all (length l - (at + 1)) s (omega arith), add-one at)
+    (append_assoc (take at l) (drop (suc at) l) (0 ∷ []))

@@ -1,9 +1,8 @@
 -- The seven kinds, their numbers and their flags.
-use Rattle.std.specs.Prelude.{ℕ, zero, suc, ◌+◌, ◌-◌, ◌/◌, ◌%◌, ◌^◌, Bool, true, false, cond, ◌&&◌, eqb}
+use Rattle.std.specs.Prelude.{ℕ, zero, suc, ◌+◌, ◌-◌, ◌/◌, ◌%◌, ◌^◌, ◌≡◌, ◌≤◌, Bool, true, false, cond, ◌&&◌, eqb, Result, Ok, Err}
 use Rattle.substitutions.specs.declared.Subs.{Subs}
 use Rattle.substitutions.specs.declared.Subs.TheVariants.{SpecialChars, InlineFormatting, AttrRefs, CharReplacement, Macros, PostReplacement, Callouts}
-use Rattle.substitutions.specs.declared.Numbered.{Numbered}
-use Rattle.substitutions.specs.declared.Numbered.TheVariants.{Kind, NoKind}
+use Rattle.substitutions.specs.declared.NotAKind.{NotAKind}
 
 -- Kinds 1 to 7: specialchars, quotes, attributes, replacements, macros, post_replacements, callouts.
 abbrev pub number_of : Subs → ℕ
@@ -15,17 +14,21 @@ number_of Macros = 5
 number_of PostReplacement = 6
 number_of Callouts = 7
 
+-- The number of a kind, which is one of 1 to 7.
+abbrev pub Gives : Subs → ℕ → Type 0
+Gives sub n = (n ≡ number_of sub) × ((1 ≤ n) × (n ≤ 7))
+
 -- The kind of a number: 1 to 7 have one, no other number has.
-unfoldable pub kind_of : ℕ → Numbered
+unfoldable pub kind_of : ℕ → Result Subs NotAKind
 kind_of n =
-    cond (eqb n 1) (Kind SpecialChars)
-    (cond (eqb n 2) (Kind InlineFormatting)
-    (cond (eqb n 3) (Kind AttrRefs)
-    (cond (eqb n 4) (Kind CharReplacement)
-    (cond (eqb n 5) (Kind Macros)
-    (cond (eqb n 6) (Kind PostReplacement)
-    (cond (eqb n 7) (Kind Callouts)
-    NoKind))))))
+    cond (eqb n 1) (Ok SpecialChars)
+    (cond (eqb n 2) (Ok InlineFormatting)
+    (cond (eqb n 3) (Ok AttrRefs)
+    (cond (eqb n 4) (Ok CharReplacement)
+    (cond (eqb n 5) (Ok Macros)
+    (cond (eqb n 6) (Ok PostReplacement)
+    (cond (eqb n 7) (Ok Callouts)
+    (Err (record { 0 = n }))))))))
 
 -- Kind k has flag 2 to the power k − 1.
 abbrev pub flag_of : ℕ → ℕ

@@ -1,6 +1,6 @@
 -- What the loops and tests of the code compute, one step after the other. No public contract speaks of these: the laws tie
 -- them to `Held` and `Moves`.
-use Rattle.std.specs.Prelude.{ℕ, suc, ◌-◌, Bool, cond, ◌&&◌, ◌||◌, List, [], ◌∷◌, ◌++◌, eqb, leb, ltb, take, drop, get_or}
+use Rattle.std.specs.Prelude.{ℕ, suc, ◌-◌, Bool, cond, ◌&&◌, ◌||◌, List, [], ◌∷◌, ◌++◌, eqb, leb, ltb, take, drop, get_or, ◌≡◌, Option, Some, None}
 use Rattle.substitutions.specs.declared.Substitutions.{Substitutions}
 use Rattle.substitutions.specs.Kinds.{flag_of, flagged}
 use Rattle.substitutions.specs.Held.{empty}
@@ -33,3 +33,8 @@ few f = eqb f 0 || eqb f 1 || eqb f 2 || eqb f 4 || eqb f 8 || eqb f 16 || eqb f
 -- What the code computes of a set: the flags left over, 255 where the set is not held for another reason.
 unfoldable pub unclaimed_flags : Substitutions → ℕ
 unclaimed_flags s = cond (ltb s.flags 128) (left s.flags s.places) 255
+
+-- The code gives none for 255.
+abbrev pub Leaves : Option ℕ → ℕ → Type 0
+Leaves None n = 255 ≡ n
+Leaves (Some f) n = f ≡ n

@@ -1,9 +1,13 @@
 -- The three moves, and what a call of one answers.
-use Rattle.std.specs.Prelude.{ℕ, zero, suc, ◌+◌, ◌-◌, cond, List, [], ◌∷◌, ◌++◌, eqb, length, take}
+use Rattle.std.specs.Prelude.{ℕ, zero, suc, ◌+◌, ◌-◌, cond, List, [], ◌∷◌, ◌++◌, eqb, length, take, Result, Ok, Err}
+use Rattle.refusals.specs.declared.Refusal.{Refusal}
 use Rattle.refusals.specs.Refusals.{set_not_held, set_not_sound}
+use Rattle.refusals.specs.Numbered.{number_of as refused_by}
 use Rattle.substitutions.specs.declared.Substitutions.{Substitutions}
 use Rattle.substitutions.specs.declared.SetAnswer.{SetAnswer}
 use Rattle.substitutions.specs.declared.Subs.{Subs}
+use Rattle.substitutions.specs.declared.Move.{Move}
+use Rattle.substitutions.specs.declared.Move.TheVariants.{Insert, Remove, Prepend}
 use Rattle.substitutions.specs.declared.Mode.{Mode}
 use Rattle.substitutions.specs.declared.Mode.TheVariants.{Port, Sheet}
 use Rattle.substitutions.specs.Kinds.{number_of, flag_of, flagged}
@@ -71,3 +75,14 @@ remove_answer m s k = answer (refusal_of m s) s (remove_of (number_of k) s)
 
 unfoldable pub prepend_answer : Mode → Substitutions → Subs → SetAnswer
 prepend_answer m s k = answer (refusal_of m s) s (prepend_of (number_of k) s)
+
+-- A move's outcome as C is handed it: 0 and the set that the move gives, or the number of the refusal and the set given.
+abbrev pub answer_of : Substitutions → Result Substitutions Refusal → SetAnswer
+answer_of s (Ok moved) = record { refusal = 0; set = moved }
+answer_of s (Err r) = refused_with (refused_by r) s
+
+-- What each move answers.
+abbrev pub answered : Move → Mode → Substitutions → Subs → SetAnswer
+answered Insert = insert_answer
+answered Remove = remove_answer
+answered Prepend = prepend_answer

@@ -1,18 +1,21 @@
 // The flag of a kind, in a flag byte.
-ghost use Rattle.std.specs.Prelude.{◌≡◌, ◌≤◌, ◌<◌};
-ghost use Rattle.substitutions.specs.Kinds.{flag_of, flagged};
+ghost use Rattle.std.specs.Prelude.{◌≡◌, ◌≤◌};
+ghost use Rattle.substitutions.specs.Kinds.{number_of, flag_of, flagged};
 
-pub(crate) fn flag_of(k: u8) -> u8
-    requires { (1 ≤ k) × (k ≤ 7) }
-    ensures value { result ≡ flag_of k }
-    ensures within { (1 ≤ result) × (result ≤ 64) }
-{
-    1 << (k - 1)
-}
+use crate::Subs;
 
-pub(crate) fn is_flagged(k: u8, flags: u8) -> bool
-    requires { (1 ≤ k) × (k ≤ 7) }
-    ensures { result ≡ flagged k flags }
-{
-    (flags >> (k - 1)) % 2 == 1
+impl Subs {
+    pub fn flag(self) -> u8
+        ensures value { result ≡ flag_of (number_of self) }
+        ensures within { (1 ≤ result) × (result ≤ 64) }
+    {
+        1 << (self as u8 - 1)
+    }
+
+    #[tactic(auto, unfolding(crate::specs::Kinds::flagged))]
+    pub(crate) fn is_flagged(self, flags: u8) -> bool
+        ensures { result ≡ flagged (number_of self) flags }
+    {
+        (flags >> (self as u8 - 1)) % 2 == 1
+    }
 }

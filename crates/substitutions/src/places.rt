@@ -9,13 +9,11 @@ pub(crate) fn fill(places: [u8; 7], n: usize, k: u8) -> [u8; 7]
     ensures { result ≡ filled n k places }
 {
     let mut p = places;
-    let mut i: usize = 0;
-    while i < n {
+    for i in 0..n {
         if p[i] == 0 {
             p[i] = k;
             return p;
         }
-        i = i + 1;
     }
     p
 }
@@ -26,24 +24,18 @@ pub(crate) fn close(places: [u8; 7], at: usize) -> [u8; 7]
     ensures { result ≡ closed at places }
 {
     let mut p = places;
-    let mut i = at;
-    while i < 6 {
-        p[i] = p[i + 1];
-        i = i + 1;
-    }
-    p[i] = 0;
+    p.copy_within(at + 1.., at);
+    p[6] = 0;
     p
 }
 
 pub(crate) fn take_out(places: [u8; 7], k: u8) -> [u8; 7]
     ensures { result ≡ without k places }
 {
-    let mut i: usize = 0;
-    while i < 7 {
+    for i in 0..7 {
         if places[i] == k {
             return close(places, i);
         }
-        i = i + 1;
     }
     places
 }
@@ -54,15 +46,13 @@ pub(crate) fn lead(places: [u8; 7], k: u8) -> [u8; 7]
 {
     let mut p = places;
     let mut carried = k;
-    let mut i: usize = 0;
-    while i < 7 {
+    for i in 0..7 {
         let here = p[i];
         p[i] = carried;
         if here == k {
             return p;
         }
         carried = here;
-        i = i + 1;
     }
     p
 }

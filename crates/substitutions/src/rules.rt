@@ -1,90 +1,56 @@
 // What decides whether a set is held.
-ghost use Rattle.std.specs.Prelude.{◌≡◌, ◌≤◌, ◌<◌, drop};
-ghost use Rattle.substitutions.specs.Held.{empty};
-ghost use Rattle.substitutions.specs.Loops.{few, left, normal_places};
+ghost use Rattle.std.specs.Prelude.{◌≡◌, ◌≤◌, ◌<◌, eqb};
+ghost use Rattle.std.specs.List.{list_all};
+ghost use Rattle.substitutions.specs.Loops.{few, left, Leaves, normal_places};
 
-use crate::flags::{flag_of, is_flagged};
+use crate::Subs;
 
-// Whether all places from `from` on are empty.
-pub(crate) fn rest_empty(places: [u8; 7], from: usize) -> bool
-    requires { from ≤ 7 }
-    ensures { result ≡ empty (drop from places) }
+// Whether all places are empty.
+fn all_empty(places: &[u8]) -> bool
+    ensures { result ≡ list_all (λ p. eqb p 0) places.now }
 {
-    let mut i = from;
-    while i < 7 {
-        if places[i] != 0 {
-            return false;
-        }
-        i = i + 1;
-    }
-    true
+    places.iter().all(|p| *p == 0)
 }
 
 // Whether the places are those of the normal set.
+#[tactic(auto, unfolding(crate::specs::Loops::normal_places))]
 pub(crate) fn is_normal(places: [u8; 7]) -> bool
     ensures { result ≡ normal_places places }
 {
-    if places[0] != 1 {
-        return false;
-    }
-    if places[1] != 2 {
-        return false;
-    }
-    if places[2] != 3 {
-        return false;
-    }
-    if places[3] != 4 {
-        return false;
-    }
-    if places[4] != 5 {
-        return false;
-    }
-    if places[5] != 6 {
-        return false;
-    }
-    places[6] == 0
+    places == [1, 2, 3, 4, 5, 6, 0]
 }
 
-// Each place takes its kind's flag: the flags left, or 255 at a place that breaks a rule.
-pub(crate) fn take_flags(places: [u8; 7], flags: u8) -> u8
+// Each place takes its kind's flag: the flags left, or none at a place that breaks a rule.
+pub(crate) fn take_flags(places: [u8; 7], flags: u8) -> Option<u8>
     requires { flags < 128 }
-    ensures { result ≡ left flags places }
+    ensures { Leaves result (left flags places) }
 {
     let mut f = flags;
-    let mut i: usize = 0;
-    while i < 7 {
+    for i in 0..7 {
         let p = places[i];
         if p == 0 {
-            if rest_empty(places, i) {
-                return f;
-            }
-            return 255;
+            return if all_empty(&places[i..]) {
+                Some(f)
+            } else {
+                None
+            };
         }
-        if p > 7 {
-            return 255;
+        let Ok(sub) = Subs::try_from(p) else {
+            return None;
+        };
+        if !sub.is_flagged(f) {
+            return None;
         }
-        if !is_flagged(p, f) {
-            return 255;
-        }
-        f = f - flag_of(p);
-        i = i + 1;
+        let taken = sub.flag();
+        f = f - taken;
     }
-    f
+    Some(f)
 }
 
 // Whether a byte has at most one of the seven flags, and no bit 7.
+#[tactic(auto, unfolding(crate::specs::Loops::few))]
 pub(crate) fn at_most_one(flags: u8) -> bool
     ensures { result ≡ few flags }
 {
-    match flags {
-        0 => true,
-        1 => true,
-        2 => true,
-        4 => true,
-        8 => true,
-        16 => true,
-        32 => true,
-        64 => true,
-        _ => false,
-    }
+    matches!(flags, 0 | 1 | 2 | 4 | 8 | 16 | 32 | 64)
 }

@@ -1,4 +1,4 @@
-// The sets that the Rust starts a block with. Its `verbatim` is 1 and 7, while the text `verbatim` in port mode gives 1 and 4.
+// The sets that the Rust starts a block with, as functions: a constant has no contract. Its `verbatim` is 1 and 7, while the text `verbatim` in port mode gives 1 and 4.
 ghost use Rattle.std.specs.Prelude.{◌≡◌};
 ghost use Rattle.substitutions.specs.Moves.{empty_set};
 ghost use Rattle.substitutions.specs.Starting.{normal_set, verbatim_set, attr_value_set, only_special_chars_set, all_set};
@@ -16,6 +16,7 @@ pub fn none() -> Substitutions
 }
 
 // A paragraph's: every kind but callouts.
+#[tactic(auto, unfolding(crate::specs::Order::flags_of))]
 pub fn normal() -> Substitutions
     ensures { result ≡ normal_set }
 {
@@ -26,6 +27,7 @@ pub fn normal() -> Substitutions
 }
 
 // A listing's: specialchars and callouts.
+#[tactic(auto, unfolding(crate::specs::Order::flags_of))]
 pub fn verbatim() -> Substitutions
     ensures { result ≡ verbatim_set }
 {
@@ -36,6 +38,7 @@ pub fn verbatim() -> Substitutions
 }
 
 // A named attribute's value.
+#[tactic(auto, unfolding(crate::specs::Order::flags_of))]
 pub fn attr_value() -> Substitutions
     ensures { result ≡ attr_value_set }
 {
@@ -45,6 +48,7 @@ pub fn attr_value() -> Substitutions
     }
 }
 
+#[tactic(auto, unfolding(crate::specs::Order::flags_of))]
 pub fn only_special_chars() -> Substitutions
     ensures { result ≡ only_special_chars_set }
 {
@@ -55,6 +59,7 @@ pub fn only_special_chars() -> Substitutions
 }
 
 // Every kind.
+#[tactic(auto, unfolding(crate::specs::Order::flags_of))]
 pub fn all() -> Substitutions
     ensures { result ≡ all_set }
 {

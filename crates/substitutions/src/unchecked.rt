@@ -4,9 +4,8 @@ ghost use Rattle.std.specs.Prelude.{◌≡◌, ◌≤◌};
 ghost use Rattle.substitutions.specs.Kinds.{number_of};
 ghost use Rattle.substitutions.specs.Moves.{room, insert_of, remove_of, prepend_of};
 
-use crate::flags::{flag_of, is_flagged};
 use crate::places::{fill, lead, take_out};
-use crate::{Mode, Subs, Substitutions, number};
+use crate::{Mode, Subs, Substitutions};
 
 // The places that insert may fill.
 fn places_to_fill(mode: Mode) -> usize
@@ -22,47 +21,40 @@ fn places_to_fill(mode: Mode) -> usize
 pub fn insert(mode: Mode, set: Substitutions, sub: Subs) -> Substitutions
     ensures { result ≡ insert_of (room mode) (number_of sub) set }
 {
-    let k = number(sub);
     let flags = set.flags;
-    if is_flagged(k, flags) {
+    if sub.is_flagged(flags) {
         return set;
     }
-    let places = set.places;
-    let filled = fill(places, places_to_fill(mode), k);
     Substitutions {
-        places: filled,
-        flags: flags + flag_of(k),
+        places: fill(set.places, places_to_fill(mode), u8::from(sub)),
+        flags: flags + sub.flag(),
     }
 }
 
 pub fn remove(set: Substitutions, sub: Subs) -> Substitutions
     ensures { result ≡ remove_of (number_of sub) set }
 {
-    let k = number(sub);
     let flags = set.flags;
-    if !is_flagged(k, flags) {
+    if !sub.is_flagged(flags) {
         return set;
     }
-    let places = set.places;
-    let closed = take_out(places, k);
     Substitutions {
-        places: closed,
-        flags: flags - flag_of(k),
+        places: take_out(set.places, u8::from(sub)),
+        flags: flags - sub.flag(),
     }
 }
 
 pub fn prepend(set: Substitutions, sub: Subs) -> Substitutions
     ensures { result ≡ prepend_of (number_of sub) set }
 {
-    let k = number(sub);
     let flags = set.flags;
     let places = set.places;
-    let led = lead(places, k);
-    if is_flagged(k, flags) {
+    let led = lead(places, u8::from(sub));
+    if sub.is_flagged(flags) {
         return Substitutions { places: led, flags };
     }
     Substitutions {
         places: led,
-        flags: flags + flag_of(k),
+        flags: flags + sub.flag(),
     }
 }

@@ -5,9 +5,8 @@ use mathlib.Core.Path.{◌≡◌, sym, subst}
 use mathlib.Core.List.{List}
 use lib.ListN.{length}
 use Rattle.token.specs.Line.{Line, most_tokens}
-use Rattle.attr_list.specs.declared.Answer.{Answer}
-use Rattle.attr_list.specs.declared.Answer.TheVariants.{Refused, Read}
-use Rattle.attr_list.specs.Entry.{Entry}
+use Rattle.attr_list.specs.Answer.{Answer, Refused, Read}
+use Rattle.attr_list.specs.declared.entries.Entry.{Entry}
 use Rattle.attr_list.specs.Reading.{Reading, refused, gives, answer_of, reading}
 use Rattle.attr_list.specs.ReadAsList.{TakenAsList, ReadAsList}
 use Rattle.attr_list.specs.Outcome.{Outcome, WhenReadAsList}

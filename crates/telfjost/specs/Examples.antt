@@ -9,7 +9,8 @@ use Rattle.subs_names.specs.Names.{callouts, verbatim, quotes, macros}
 use Rattle.token.specs.Kind.{close_bracket, comma, double_quote, dots, equal_signs, hash, percent, single_quote, word}
 use Rattle.token.specs.Line.{run}
 use Rattle.row.specs.Row.{empty_positional, positional, named, ident, role, option, diagnostic}
-use Rattle.attr_list.specs.Entry.{Entry, Block}
+use Rattle.attr_list.specs.declared.entries.Entry.{Entry}
+use Rattle.attr_list.specs.declared.entries.Entry.TheVariants.{Block}
 use Rattle.attr_ir.specs.Ir as attr-ir-ir
 use Rattle.attr_ir.specs.Look as attr-ir-look
 use Rattle.attr_list.specs.Reading as attr-list-reading

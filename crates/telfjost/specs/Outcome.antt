@@ -1,11 +1,14 @@
 -- What each function that C and Rust link answers and leaves, in its own result's numbers.
-use Rattle.std.specs.Prelude.{ℕ, ◌≡◌, List, length}
+use Rattle.std.specs.Prelude.{ℕ, ◌≡◌, Bool, List, length, Result}
+use Rattle.refusals.specs.declared.Refusal.{Refusal}
 use Rattle.token.specs.Line.{Line, most_tokens}
-use Rattle.attr_list.specs.declared.Answer.{Answer}
-use Rattle.attr_list.specs.Entry.{Entry}
+use Rattle.attr_list.specs.Answer.{Answer}
+use Rattle.attr_list.specs.declared.entries.Entry.{Entry}
 use Rattle.attr_list.specs.Reading.{reading, answer_of, buffer_of, refusal_of, rows_of, consumed_of}
 use Rattle.attr_list.specs.ReadAsList.{TakenAsList, ReadAsList}
 use Rattle.attr_list.specs.Block as block
+use Rattle.attr_list.specs.Told.{told, told_line}
+use Rattle.attr_list.specs.declared.Read as code
 use Rattle.telfjost.specs.declared.TelfjostBool.{TelfjostBool}
 use Rattle.telfjost.specs.declared.TelfjostList.{TelfjostList}
 
@@ -14,11 +17,18 @@ pub record BlockOutcome (l : Line) (r : TelfjostBool) : Type 0 where
   pub refusal : r.refusal ≡ block.refusal_of (block.block_line l)
   pub yes : r.yes ≡ block.yes_of (block.block_line l)
 
+-- the numbers of what `is_block_attr_list` gives
+abbrev pub BlockNumbers : Result Bool Refusal → TelfjostBool → Type 0
+BlockNumbers a r = (r.refusal ≡ block.refusal_of (told_line a)) × (r.yes ≡ block.yes_of (told_line a))
+
 -- the numbers of an answer
 pub record NumbersOf (a : Answer) (r : TelfjostList) : Type 0 where
   pub refusal : r.refusal ≡ refusal_of a
   pub rows : r.rows ≡ rows_of a
   pub consumed : r.consumed ≡ consumed_of a
+
+abbrev pub ListNumbers : Result code.Read Refusal → TelfjostList → Type 0
+ListNumbers a r = NumbersOf (told a) r
 
 -- The entry e was lent the line l and a row buffer of the numbers `given`; the function answered r and left the numbers `left`.
 pub record ListOutcome (e : Entry) (l : Line) (given : List ℕ) (r : TelfjostList) (left : List ℕ) : Type 0 where

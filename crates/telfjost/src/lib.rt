@@ -6,11 +6,11 @@ mod sets;
 mod subs;
 
 ghost use Rattle.token.specs.Lent.{line};
-ghost use Rattle.telfjost.specs.Outcome.{BlockOutcome};
+ghost use Rattle.telfjost.specs.Outcome.{BlockNumbers, BlockOutcome};
 
-use attr_list::BlockLine;
+use refusals::Refusal;
 
-// A refusal, 0 for none, and 1 for yes.
+// A refusal, 0 for none, and 1 for yes: numbers, since C has to read them.
 #[repr(C)]
 #[derive(Clone, Copy)]
 pub struct TelfjostBool {
@@ -18,13 +18,29 @@ pub struct TelfjostBool {
     pub yes: usize,
 }
 
-// A refusal, 0 for none, how many rows are written and how many tokens are consumed; the last two are 0 where the call is refused.
+// A refusal, 0 for none, how many rows are written and how many tokens are consumed; the last two are 0 where the call is refused. Numbers, since C
+// has to read them.
 #[repr(C)]
 #[derive(Clone, Copy)]
 pub struct TelfjostList {
     pub refusal: usize,
     pub rows: usize,
     pub consumed: usize,
+}
+
+impl From<Result<bool, Refusal>> for TelfjostBool {
+    ghost from_gives = { BlockNumbers };
+
+    fn from(outcome: Result<bool, Refusal>) -> TelfjostBool {
+        match outcome {
+            Ok(true) => TelfjostBool { refusal: 0, yes: 1 },
+            Ok(false) => TelfjostBool { refusal: 0, yes: 0 },
+            Err(refusal) => TelfjostBool {
+                refusal: usize::from(refusal),
+                yes: 0,
+            },
+        }
+    }
 }
 
 #[unsafe(no_mangle)]
@@ -35,17 +51,5 @@ pub extern "C" fn telfjost_is_block_attr_list<'a>(
 ) -> TelfjostBool
     ensures { BlockOutcome (line kinds.entry text.entry pairs.entry) result }
 {
-    let answer = attr_list::is_block_attr_list(kinds, text, pairs);
-    match answer {
-        BlockLine::Refused(number) => TelfjostBool {
-            refusal: number,
-            yes: 0,
-        },
-        BlockLine::Is(yes) => {
-            if yes {
-                return TelfjostBool { refusal: 0, yes: 1 };
-            }
-            TelfjostBool { refusal: 0, yes: 0 }
-        }
-    }
+    TelfjostBool::from(attr_list::is_block_attr_list(kinds, text, pairs))
 }

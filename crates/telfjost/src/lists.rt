@@ -1,27 +1,43 @@
-// The four readings.
+// The four readings, a function for each name that C links.
 ghost use Rattle.token.specs.Lent.{line};
-ghost use Rattle.attr_list.specs.Entry.{Block, BlockMacro, Inline, Link};
-ghost use Rattle.telfjost.specs.Outcome.{NumbersOf, ListOutcome};
+ghost use Rattle.attr_list.specs.declared.entries.Entry.TheVariants.{Block, BlockMacro, Inline, Link};
+ghost use Rattle.telfjost.specs.Outcome.{ListNumbers, ListOutcome};
 
 use super::TelfjostList;
-use attr_list::Answer;
+use attr_list::entries::Entry;
+use attr_list::{Read, parse_attr_list};
+use refusals::Refusal;
 
-// The numbers of an answer.
-fn numbers(answer: Answer) -> TelfjostList
-    ensures { NumbersOf answer result }
-{
-    match answer {
-        Answer::Refused(number) => TelfjostList {
-            refusal: number,
-            rows: 0,
-            consumed: 0,
-        },
-        Answer::Read { rows, consumed } => TelfjostList {
-            refusal: 0,
-            rows,
-            consumed,
-        },
+impl From<Result<Read, Refusal>> for TelfjostList {
+    ghost from_gives = { ListNumbers };
+
+    fn from(outcome: Result<Read, Refusal>) -> TelfjostList {
+        match outcome {
+            Ok(read) => TelfjostList {
+                refusal: 0,
+                rows: read.rows,
+                consumed: read.consumed,
+            },
+            Err(refusal) => TelfjostList {
+                refusal: usize::from(refusal),
+                rows: 0,
+                consumed: 0,
+            },
+        }
     }
+}
+
+// What an entry answers, in numbers.
+fn parsed<'a, 'b>(
+    entry: Entry,
+    kinds: &'a [u8],
+    text: &'a [u8],
+    pairs: &'a [u32],
+    rows: &'b mut [u32],
+) -> TelfjostList
+    ensures { ListOutcome entry (line kinds.entry text.entry pairs.entry) rows.old result rows.new }
+{
+    TelfjostList::from(parse_attr_list(entry, kinds, text, pairs, rows))
 }
 
 // The attribute list of a block.
@@ -34,7 +50,7 @@ pub extern "C" fn telfjost_block_attr_list<'a, 'b>(
 ) -> TelfjostList
     ensures { ListOutcome Block (line kinds.entry text.entry pairs.entry) rows.old result rows.new }
 {
-    numbers(attr_list::parse_block_attr_list(kinds, text, pairs, rows))
+    parsed(Entry::Block, kinds, text, pairs, rows)
 }
 
 // The attribute list of a block macro.
@@ -47,7 +63,7 @@ pub extern "C" fn telfjost_block_macro_attr_list<'a, 'b>(
 ) -> TelfjostList
     ensures { ListOutcome BlockMacro (line kinds.entry text.entry pairs.entry) rows.old result rows.new }
 {
-    numbers(attr_list::parse_block_macro_attr_list(kinds, text, pairs, rows))
+    parsed(Entry::BlockMacro, kinds, text, pairs, rows)
 }
 
 // The attribute list of an inline macro.
@@ -60,7 +76,7 @@ pub extern "C" fn telfjost_inline_macro_attr_list<'a, 'b>(
 ) -> TelfjostList
     ensures { ListOutcome Inline (line kinds.entry text.entry pairs.entry) rows.old result rows.new }
 {
-    numbers(attr_list::parse_inline_macro_attr_list(kinds, text, pairs, rows))
+    parsed(Entry::Inline, kinds, text, pairs, rows)
 }
 
 // What a link macro's brackets hold.
@@ -73,5 +89,5 @@ pub extern "C" fn telfjost_link_macro_attr_list<'a, 'b>(
 ) -> TelfjostList
     ensures { ListOutcome Link (line kinds.entry text.entry pairs.entry) rows.old result rows.new }
 {
-    numbers(attr_list::parse_link_macro_attr_list(kinds, text, pairs, rows))
+    parsed(Entry::Link, kinds, text, pairs, rows)
 }

@@ -1,116 +1,88 @@
-// The moves, the checks and the starting sets of a substitution set. A kind is given by its number.
+// The moves, the checks and the starting sets of a substitution set, a function for each name that C links. A kind is given by its number.
 ghost use Rattle.std.specs.Prelude.{◌≡◌};
 ghost use Rattle.substitutions.specs.Kinds.{kind_of};
-ghost use Rattle.substitutions.specs.Moves.{empty_set, refusal_of, insert_answer, remove_answer, prepend_answer};
+ghost use Rattle.substitutions.specs.Moves.{empty_set, refusal_of, insert_answer, remove_answer, prepend_answer, answered};
 ghost use Rattle.substitutions.specs.Starting.{normal_set, verbatim_set, attr_value_set, only_special_chars_set, all_set};
 ghost use Rattle.telfjost.specs.ByNumber.{by_number, contains_number};
 
-use substitutions::{
-    Mode, Numbered, SetAnswer, Substitutions, contains, insert_in, kind_of, prepend_in, refusal,
-    remove_in,
-};
+use refusals::number_or_0;
+use substitutions::{Mode, Move, SetAnswer, Subs, Substitutions};
 
-// A move of no kind: the set's own refusal, and the set given.
-fn pass_over(mode: Mode, set: Substitutions) -> SetAnswer
-    ensures { result ≡ record { refusal = refusal_of mode set; set = set } }
+// A move of the kind that the number names. A number that names none is passed over: the set's own refusal, and the set given.
+fn make(how: Move, mode: Mode, set: Substitutions, kind: u8) -> SetAnswer
+    ensures { result ≡ by_number (answered how) mode set (kind_of kind) }
 {
-    SetAnswer {
-        refusal: refusal(mode, set),
-        set,
-    }
-}
-
-fn insert_number(mode: Mode, set: Substitutions, kind: u8) -> SetAnswer
-    ensures { result ≡ by_number insert_answer mode set (kind_of kind) }
-{
-    let Numbered::Kind(sub) = kind_of(kind) else {
-        return pass_over(mode, set);
+    let Ok(sub) = Subs::try_from(kind) else {
+        let refusal = number_or_0(set.check(mode));
+        return SetAnswer { refusal, set };
     };
-    insert_in(mode, set, sub)
-}
-
-fn remove_number(mode: Mode, set: Substitutions, kind: u8) -> SetAnswer
-    ensures { result ≡ by_number remove_answer mode set (kind_of kind) }
-{
-    let Numbered::Kind(sub) = kind_of(kind) else {
-        return pass_over(mode, set);
-    };
-    remove_in(mode, set, sub)
-}
-
-fn prepend_number(mode: Mode, set: Substitutions, kind: u8) -> SetAnswer
-    ensures { result ≡ by_number prepend_answer mode set (kind_of kind) }
-{
-    let Numbered::Kind(sub) = kind_of(kind) else {
-        return pass_over(mode, set);
-    };
-    prepend_in(mode, set, sub)
+    set.answer(set.make(how, mode, sub))
 }
 
 #[unsafe(no_mangle)]
 pub extern "C" fn telfjost_insert(set: Substitutions, kind: u8) -> SetAnswer
     ensures { result ≡ by_number insert_answer Mode.Port set (kind_of kind) }
 {
-    insert_number(Mode::Port, set, kind)
+    make(Move::Insert, Mode::Port, set, kind)
 }
 
 #[unsafe(no_mangle)]
 pub extern "C" fn telfjost_remove(set: Substitutions, kind: u8) -> SetAnswer
     ensures { result ≡ by_number remove_answer Mode.Port set (kind_of kind) }
 {
-    remove_number(Mode::Port, set, kind)
+    make(Move::Remove, Mode::Port, set, kind)
 }
 
 #[unsafe(no_mangle)]
 pub extern "C" fn telfjost_prepend(set: Substitutions, kind: u8) -> SetAnswer
     ensures { result ≡ by_number prepend_answer Mode.Port set (kind_of kind) }
 {
-    prepend_number(Mode::Port, set, kind)
+    make(Move::Prepend, Mode::Port, set, kind)
 }
 
 #[unsafe(no_mangle)]
 pub extern "C" fn telfjost_insert_sheet(set: Substitutions, kind: u8) -> SetAnswer
     ensures { result ≡ by_number insert_answer Mode.Sheet set (kind_of kind) }
 {
-    insert_number(Mode::Sheet, set, kind)
+    make(Move::Insert, Mode::Sheet, set, kind)
 }
 
 #[unsafe(no_mangle)]
 pub extern "C" fn telfjost_remove_sheet(set: Substitutions, kind: u8) -> SetAnswer
     ensures { result ≡ by_number remove_answer Mode.Sheet set (kind_of kind) }
 {
-    remove_number(Mode::Sheet, set, kind)
+    make(Move::Remove, Mode::Sheet, set, kind)
 }
 
 #[unsafe(no_mangle)]
 pub extern "C" fn telfjost_prepend_sheet(set: Substitutions, kind: u8) -> SetAnswer
     ensures { result ≡ by_number prepend_answer Mode.Sheet set (kind_of kind) }
 {
-    prepend_number(Mode::Sheet, set, kind)
+    make(Move::Prepend, Mode::Sheet, set, kind)
 }
 
 #[unsafe(no_mangle)]
 pub extern "C" fn telfjost_set_refusal(set: Substitutions) -> usize
     ensures { result ≡ refusal_of Mode.Port set }
 {
-    refusal(Mode::Port, set)
+    number_or_0(set.check(Mode::Port))
 }
 
 #[unsafe(no_mangle)]
 pub extern "C" fn telfjost_set_refusal_sheet(set: Substitutions) -> usize
     ensures { result ≡ refusal_of Mode.Sheet set }
 {
-    refusal(Mode::Sheet, set)
+    number_or_0(set.check(Mode::Sheet))
 }
 
 #[unsafe(no_mangle)]
 pub extern "C" fn telfjost_contains(set: Substitutions, kind: u8) -> bool
     ensures { result ≡ contains_number set (kind_of kind) }
 {
-    let Numbered::Kind(sub) = kind_of(kind) else {
-        return false;
-    };
-    contains(set, sub)
+    match Subs::try_from(kind) {
+        Ok(sub) => set.contains(sub),
+        Err(_) => false,
+    }
 }
 
 #[unsafe(no_mangle)]

@@ -9,8 +9,7 @@ use lib.Dec.{ltb}
 use lib.ListN.{length, get_or, drop, drop_of_length-le}
 use lib.Seq.{drop-cons}
 use borrow.Author.Tests.{lt-ltb, le-ltb, ltb-true}
-use Rattle.token.specs.Kind.{largest}
-use Rattle.token.specs.Line.{some_over, misplaced}
+use Rattle.token.specs.Line.{misplaced}
 
 -- what the loop of 6 keeps: a token has ended past the text, or one from here on is misplaced. While none begins before the previous one ends, an end
 -- past the text is never made good by a later one, so the last end tells
@@ -27,19 +26,6 @@ or-none false = refl
 
 pub passed_first : (size : ℕ) (ps : List ℕ) → passed size 0 ps ≡ misplaced size 0 ps
 passed_first size ps = rw (le-ltb size 0 (omega arith)) refl
-
-module _ (ks : List ℕ) (i : ℕ) (h : i < length ks) where
-  pub over-here : largest < get_or ks i 0 → true ≡ some_over (drop i ks)
-  unfolding some_over
-  over-here g = rw (drop-cons ks i 0 h, lt-ltb largest (get_or ks i 0) g)
-
-  pub over-next : get_or ks i 0 ≤ largest → some_over (drop (i + 1) ks) ≡ some_over (drop i ks)
-  unfolding some_over
-  over-next g = rw (drop-cons ks i 0 h, add-one i, le-ltb largest (get_or ks i 0) g)
-
-pub over-end : (ks : List ℕ) (i : ℕ) → length ks ≤ i → false ≡ some_over (drop i ks)
-unfolding some_over
-over-end ks i h = rw (drop_of_length-le ks h)
 
 module _ (ps : List ℕ) (i : ℕ) (h : 2 * i + 1 < length ps) where
   pub pair-at : drop (2 * i) ps ≡ get_or ps (2 * i) 0 ∷ get_or ps (2 * i + 1) 0 ∷ drop (2 * (i + 1)) ps

@@ -1,3 +1,5 @@
 pub mod Kind
+pub mod KindNumber
 pub mod Line
 pub mod Lent
+pub mod Checked

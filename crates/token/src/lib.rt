@@ -2,19 +2,27 @@
 #![tactic(auto)]
 
 pub mod kind;
+pub mod lent;
 pub mod line;
 
 // A token place: counts tokens.
-#[derive(Clone, Copy)]
+#[derive(Clone, Copy, Debug, PartialEq, Eq)]
 pub struct TokenPlace(pub usize);
 
 // A byte offset of a lexeme: counts bytes.
-#[derive(Clone, Copy)]
+#[derive(Clone, Copy, Debug, PartialEq, Eq)]
 pub struct ByteOffset(pub usize);
 
 // A run: the place of its first kept token, and how many places there are from it to its last. An empty run is 0, 0.
-#[derive(Clone, Copy)]
+#[derive(Clone, Copy, Debug, PartialEq, Eq)]
 pub struct Run {
     pub place: TokenPlace,
     pub count: usize,
+}
+
+impl Run {
+    pub const EMPTY: Run = Run {
+        place: TokenPlace(0),
+        count: 0,
+    };
 }

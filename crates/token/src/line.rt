@@ -1,30 +1,26 @@
 // The checks of a line, and what is read of its tokens' lexemes.
 ghost use Rattle.std.specs.Prelude.{◌≡◌, ◌+◌, ◌*◌, ◌≤◌, ◌<◌, length};
+ghost use Rattle.refusals.specs.Numbered.{refusal_number};
 ghost use Rattle.token.specs.Line.{offset_in, length_in, limits, some_over, misplaced, refusal};
 ghost use Rattle.token.specs.Lent.{line};
 
-use super::kind::WORD;
+use super::kind::TokenKind;
 use super::{ByteOffset, TokenPlace};
-use refusals::{
-    KIND_TOO_LARGE, NO_TOKENS, PAIRS_NOT_IN_ORDER, PAIRS_NOT_TWO, TEXT_TOO_LONG, TOO_MANY_TOKENS,
-};
+use refusals::Refusal;
 
 // The most tokens and the most bytes of a line.
 pub const MOST_TOKENS: usize = 4096;
 
 pub const MOST_BYTES: usize = 65535;
 
-// Both.
+// The largest number of a kind.
+const LARGEST: u8 = TokenKind::Word as u8;
+
+// Both limits.
 pub fn limits() -> [usize; 2]
     ensures { result ≡ limits }
 {
     [MOST_TOKENS, MOST_BYTES]
-}
-
-fn wide(x: u32) -> usize
-    ensures { result ≡ x }
-{
-    x as usize
 }
 
 // The byte offset of a token's lexeme.
@@ -32,8 +28,7 @@ pub fn offset_of(pairs: &[u32], p: TokenPlace) -> ByteOffset
     requires { 2 * p.0 + 1 < length pairs.now }
     ensures { result.0 ≡ offset_in pairs.now p.0 }
 {
-    let at = 2 * p.0;
-    ByteOffset(wide(pairs[at]))
+    ByteOffset(pairs[2 * p.0] as usize)
 }
 
 // The length of a token's lexeme, in bytes.
@@ -41,22 +36,14 @@ pub fn length_of(pairs: &[u32], p: TokenPlace) -> usize
     requires { 2 * p.0 + 1 < length pairs.now }
     ensures { result ≡ length_in pairs.now p.0 }
 {
-    let at = 2 * p.0 + 1;
-    wide(pairs[at])
+    pairs[2 * p.0 + 1] as usize
 }
 
 // Whether some kind is over the largest.
 fn some_over(kinds: &[u8]) -> bool
     ensures { result ≡ some_over kinds.now }
 {
-    let mut i: usize = 0;
-    while i < kinds.len() {
-        if kinds[i] > WORD {
-            return true;
-        }
-        i += 1;
-    }
-    false
+    kinds.iter().any(|k| *k > LARGEST)
 }
 
 // Whether some token starts before the previous ends, or ends past a text of `size` bytes. Where none does the first, no token ends after the last.
@@ -64,45 +51,45 @@ fn some_misplaced(pairs: &[u32], tokens: usize, size: usize) -> bool
     requires { length pairs.now ≡ 2 * tokens }
     ensures { result ≡ misplaced size 0 pairs.now }
 {
-    let mut i: usize = 0;
     let mut end: usize = 0;
-    while i < tokens {
+    for i in 0..tokens {
         let start = offset_of(pairs, TokenPlace(i));
         let next = start.0 + length_of(pairs, TokenPlace(i));
         if start.0 < end {
             return true;
         }
         end = next;
-        i += 1;
     }
     size < end
 }
 
-// The number with which a line of at most `most` tokens is refused, 0 where it is not.
-pub fn line_refusal<'a>(kinds: &'a [u8], text: &'a [u8], pairs: &'a [u32], most: usize) -> usize
-    ensures { result ≡ refusal most (line kinds.entry text.entry pairs.entry) }
+// Why a line of at most `most` tokens is refused, if it is: the first check that applies.
+pub fn check_line<'a>(
+    kinds: &'a [u8],
+    text: &'a [u8],
+    pairs: &'a [u32],
+    most: usize,
+) -> Result<(), Refusal>
+    ensures { refusal_number result ≡ refusal most (line kinds.entry text.entry pairs.entry) }
 {
     let tokens = kinds.len();
     if tokens == 0 {
-        return NO_TOKENS;
+        return Err(Refusal::NoTokens);
     }
     if tokens > most {
-        return TOO_MANY_TOKENS;
+        return Err(Refusal::TooManyTokens);
     }
     if text.len() > MOST_BYTES {
-        return TEXT_TOO_LONG;
+        return Err(Refusal::TextTooLong);
     }
-    if pairs.len() < tokens {
-        return PAIRS_NOT_TWO;
-    }
-    if pairs.len() - tokens != tokens {
-        return PAIRS_NOT_TWO;
+    if pairs.len() < tokens || pairs.len() - tokens != tokens {
+        return Err(Refusal::PairsNotTwo);
     }
     if some_over(kinds) {
-        return KIND_TOO_LARGE;
+        return Err(Refusal::KindTooLarge);
     }
     if some_misplaced(pairs, tokens, text.len()) {
-        return PAIRS_NOT_IN_ORDER;
+        return Err(Refusal::PairsNotInOrder);
     }
-    0
+    Ok(())
 }

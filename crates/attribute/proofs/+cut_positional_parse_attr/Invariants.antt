@@ -3,7 +3,7 @@ use Rattle.std.proofs.Common.{◌+◌, ◌*◌, ◌-◌}
 use Rattle.attribute.proofs.+cut_positional_parse_attr.Given as goal
 
 abbrev pub decreases-cut_positional : goal.decreases-cut_positional
-decreases-cut_positional l = 2 * l.run.count
+decreases-cut_positional l = 2 * (l.tokens.to.0 - l.tokens.from.0)
 
 abbrev pub decreases-parse_attr : goal.decreases-parse_attr
-decreases-parse_attr l = 2 * (l.to.0 - l.from.0) + 1
+decreases-parse_attr l = 2 * (l.tokens.to.0 - l.tokens.from.0) + 1

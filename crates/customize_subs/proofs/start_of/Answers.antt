@@ -3,17 +3,12 @@ use mathlib.Core.Path.{sym, ◌∙◌}
 use Rattle.customize_subs.specs.Customizing.{start_of}
 use Rattle.customize_subs.proofs.TextLaws.{modified-begins}
 use Rattle.customize_subs.proofs.start_of.Goals as goal
-
-pub returns-then-begins_modified : goal.returns-then-begins_modified
-unfolding start_of
-returns-then-begins_modified c =
-    let a = c.args in
-    rw (modified-begins a.text.now (sym c.begins_modified.ensures ∙ c.if-begins_modified.true))
+use Rattle.customize_subs.proofs.start_of.Goals.{then-begins_modified, else-begins_modified}
 
 pub returns-then-has_modifier : goal.returns-then-has_modifier
 unfolding start_of
-returns-then-has_modifier c = rw (sym c.has_modifier.ensures ∙ c.if-has_modifier.true)
-
-pub returns : goal.returns
-unfolding start_of
-returns c = rw (sym c.has_modifier.ensures ∙ c.if-has_modifier.false) c.none.ensures
+returns-then-has_modifier c =
+    elim c.if-begins_modified.branch [
+      | then-begins_modified w ↦ rw (modified-begins c.args.text.now (sym c.begins_modified.ensures ∙ w.if-begins_modified.true))
+      | else-begins_modified w ↦ rw (sym w.has_modifier.ensures ∙ sym w.value-is ∙ c.if-has_modifier.true)
+    ]

@@ -1,10 +1,6 @@
--- `over_flags` ends: each turn counts one set more, as held or as refused, and at most 42 differences.
--- Assumes nothing.
-use Rattle.std.proofs.Common.{◌-◌, ◌≤◌, ◌*◌}
+-- `over_flags` counts at most one set and 42 answers for each byte. Assumes nothing.
+use Prim.Native.Nat.{◌*◌, ◌≤◌}
 use Rattle.lent_moves_run.proofs.over_flags.Given as goal
 
 abbrev pub invariant-loop-n : goal.invariant-loop-n
-invariant-loop-n l = (l.n ≤ 256) × ((l.held ≤ l.n) × ((l.refused ≤ l.n) × (l.differ ≤ 42 * l.n)))
-
-abbrev pub decreases-loop-n : goal.decreases-loop-n
-decreases-loop-n l = 256 - l.n
+invariant-loop-n l = (l.count.held ≤ l.n) × ((l.count.refused ≤ l.n) × (l.count.differ ≤ 42 * l.n))

@@ -1,10 +1,6 @@
--- `over_kinds` ends, and counts at most 6 differences a kind.
--- Assumes nothing.
-use Rattle.std.proofs.Common.{◌-◌, ◌≤◌, ◌*◌}
+-- `over_kinds` counts at most 6 for each kind. Assumes nothing.
+use Prim.Native.Nat.{◌*◌, ◌≤◌}
 use Rattle.lent_moves_run.proofs.over_kinds.Given as goal
 
-abbrev pub invariant-loop-n : goal.invariant-loop-n
-invariant-loop-n l = (l.n ≤ 7) × (l.differ ≤ 6 * l.n)
-
-abbrev pub decreases-loop-n : goal.decreases-loop-n
-decreases-loop-n l = 7 - l.n
+abbrev pub invariant-loop-sub : goal.invariant-loop-sub
+invariant-loop-sub l = l.differ ≤ 6 * l.sub-index

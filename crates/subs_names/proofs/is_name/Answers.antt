@@ -11,13 +11,16 @@ pub returns-then-part-i : goal.returns-then-part-i
 returns-then-part-i c =
     let a = c.args in
     let i = c.loop-i.i in
-    same_stop a.part.now a.name.now i (omega arith) (omega arith) c.if-part-i.true ∙ c.loop-i.invariant.1
+    same_stop a.part.now a.name.now i (omega arith) (omega arith) c.if-part-i.true ∙ c.loop-i.invariant
 
 pub loop-i-preserved : goal.loop-i-preserved
 loop-i-preserved c =
     let a = c.args in
     let i = c.loop-i.i in
-    (omega arith, same_next a.part.now a.name.now i (omega arith) (omega arith) c.if-part-i.false ∙ c.loop-i.invariant.1)
+    same_next a.part.now a.name.now i (omega arith) (omega arith) c.if-part-i.false ∙ c.loop-i.invariant
 
 pub returns : goal.returns
-returns c = same_end _ _ _ c.loop-i-test.false (omega arith) ∙ c.loop-i.invariant.1
+returns c =
+    let a = c.args in
+    let i = c.loop-i.i in
+    same_end a.part.now a.name.now i (omega arith) (omega arith) ∙ c.loop-i.invariant

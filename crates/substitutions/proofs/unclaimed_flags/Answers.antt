@@ -2,7 +2,7 @@
 use borrow.Author.Rules.{rules}
 use native.Mathlib.Omega.{arith}
 use mathlib.Core.Path.{sym, ◌∙◌}
-use Rattle.substitutions.proofs.AnswersLaws.{left-big, left-small, normal-left}
+use Rattle.substitutions.proofs.AnswersLaws.{left-big, left-small, leaves, normal-left}
 use Rattle.substitutions.proofs.unclaimed_flags.Goals as goal
 
 pub returns-then-flags-ge128 : goal.returns-then-flags-ge128
@@ -12,4 +12,4 @@ pub returns-then-is_normal : goal.returns-then-is_normal
 returns-then-is_normal c = normal-left c.args.set (search rules) (omega arith) (sym c.is_normal.ensures ∙ c.if-is_normal.true)
 
 pub returns : goal.returns
-returns c = c.take_flags.ensures ∙ left-small c.args.set (omega arith)
+returns c = leaves _ _ _ c.take_flags.ensures (left-small c.args.set (omega arith))

@@ -1,10 +1,6 @@
--- `look` goes from kept token to kept token until one decides. The loop's invariant (`Looking`): the tokens left are read as the whole is. Assumes nothing.
-use Prim.Native.Nat.{◌-◌}
+-- `look` goes from token to token until one decides. The loop's invariant (`Looking`): the tokens left are read as the whole is. Assumes nothing.
 use Rattle.attr_ir.proofs.Sights.{Looking}
 use Rattle.attr_ir.proofs.look.look.Given as goal
 
-abbrev pub invariant-loop-at : goal.invariant-loop-at
-invariant-loop-at l = Looking l.kinds l.text l.pairs l.initial.at l.end l.block l.first l.noted l.at
-
-abbrev pub decreases-loop-at : goal.decreases-loop-at
-decreases-loop-at l = l.end - l.at
+abbrev pub invariant-loop-i : goal.invariant-loop-i
+invariant-loop-i l = Looking l.tokens.line.kinds.now l.tokens.line.text.now l.tokens.line.pairs.now l.tokens.from.0 l.tokens.to.0 l.block l.first l.noted l.i

@@ -1,65 +1,33 @@
 -- `name_of` gives the first name that is the same, by the tests that failed before it. Assumes nothing.
-use mathlib.Core.Path.{sym, ◌∙◌}
+use Rattle.std.proofs.Common.{sym}
 use Rattle.attr_ir.specs.Ir.{name_of}
 use Rattle.attr_ir.proofs.naming.name_of.Goals as goal
+use Rattle.attr_ir.proofs.naming.name_of.Goals.{then-name_is-via-then-name_is, then-name_is-via-else-name_is+then-name_is-2, then-name_is-5-via-then-name_is-5, then-name_is-5-via-else-name_is-5+then-name_is-6}
 
 pub returns-then-name_is : goal.returns-then-name_is
 unfolding name_of
-returns-then-name_is c = rw (sym c.name_is.ensures ∙ c.if-name_is.true)
-
-pub returns-then-name_is-2 : goal.returns-then-name_is-2
-unfolding name_of
-returns-then-name_is-2 c = rw (sym c.name_is.ensures ∙ c.if-name_is.false, sym c.name_is-2.ensures ∙ c.if-name_is-2.true)
+returns-then-name_is c =
+    elim c.then-name_is.branch [
+      | then-name_is-via-then-name_is w ↦ sym (rw (← w.if-name_is.ensures))
+      | then-name_is-via-else-name_is+then-name_is-2 w ↦ sym (rw (← w.if-name_is.ensures, ← w.if-name_is-2.ensures))
+    ]
 
 pub returns-then-name_is-3 : goal.returns-then-name_is-3
 unfolding name_of
-returns-then-name_is-3 c =
-    let name-is-call = c.name_is in
-    let if1 = c.if-name_is in
-    rw (sym name-is-call.ensures ∙ if1.false, sym c.name_is-2.ensures ∙ c.if-name_is-2.false, sym c.name_is-3.ensures ∙ c.if-name_is-3.true)
+returns-then-name_is-3 c = sym (rw (← c.if-name_is.ensures, ← c.if-name_is-2.ensures, ← c.if-name_is-3.ensures))
 
 pub returns-then-name_is-4 : goal.returns-then-name_is-4
 unfolding name_of
-returns-then-name_is-4 c =
-    let name-is-call = c.name_is in
-    let if1 = c.if-name_is in
-    let name-is2-call = c.name_is-2 in
-    let if2 = c.if-name_is-2 in
-    rw (sym name-is-call.ensures ∙ if1.false, sym name-is2-call.ensures ∙ if2.false, sym c.name_is-3.ensures ∙ c.if-name_is-3.false, sym c.name_is-4.ensures ∙ c.if-name_is-4.true)
+returns-then-name_is-4 c = sym (rw (← c.if-name_is.ensures, ← c.if-name_is-2.ensures, ← c.if-name_is-3.ensures, ← c.if-name_is-4.ensures))
 
 pub returns-then-name_is-5 : goal.returns-then-name_is-5
 unfolding name_of
 returns-then-name_is-5 c =
-    let name-is-call = c.name_is in
-    let if1 = c.if-name_is in
-    let name-is2-call = c.name_is-2 in
-    let if2 = c.if-name_is-2 in
-    let name-is3-call = c.name_is-3 in
-    let if3 = c.if-name_is-3 in
-    rw (sym name-is-call.ensures ∙ if1.false, sym name-is2-call.ensures ∙ if2.false, sym name-is3-call.ensures ∙ if3.false, sym c.name_is-4.ensures ∙ c.if-name_is-4.false, sym c.name_is-5.ensures ∙ c.if-name_is-5.true)
-
-pub returns-then-name_is-6 : goal.returns-then-name_is-6
-unfolding name_of
-returns-then-name_is-6 c =
-    let name-is-call = c.name_is in
-    let if1 = c.if-name_is in
-    let name-is2-call = c.name_is-2 in
-    let if2 = c.if-name_is-2 in
-    let name-is3-call = c.name_is-3 in
-    let if3 = c.if-name_is-3 in
-    let name-is4-call = c.name_is-4 in
-    let if4 = c.if-name_is-4 in
-    rw (sym name-is-call.ensures ∙ if1.false, sym name-is2-call.ensures ∙ if2.false, sym name-is3-call.ensures ∙ if3.false, sym name-is4-call.ensures ∙ if4.false, sym c.name_is-5.ensures ∙ c.if-name_is-5.false, sym c.name_is-6.ensures ∙ c.if-name_is-6.true)
+    elim c.then-name_is-5.branch [
+      | then-name_is-5-via-then-name_is-5 w ↦ sym (rw (← c.if-name_is.ensures, ← c.if-name_is-2.ensures, ← c.if-name_is-3.ensures, ← c.if-name_is-4.ensures, ← w.if-name_is-5.ensures))
+      | then-name_is-5-via-else-name_is-5+then-name_is-6 w ↦ sym (rw (← c.if-name_is.ensures, ← c.if-name_is-2.ensures, ← c.if-name_is-3.ensures, ← c.if-name_is-4.ensures, ← w.if-name_is-5.ensures, ← w.if-name_is-6.ensures))
+    ]
 
 pub returns : goal.returns
 unfolding name_of
-returns c =
-    let name-is-call = c.name_is in
-    let if1 = c.if-name_is in
-    let name-is2-call = c.name_is-2 in
-    let if2 = c.if-name_is-2 in
-    let name-is3-call = c.name_is-3 in
-    let if3 = c.if-name_is-3 in
-    let name-is4-call = c.name_is-4 in
-    let if4 = c.if-name_is-4 in
-    rw (sym name-is-call.ensures ∙ if1.false, sym name-is2-call.ensures ∙ if2.false, sym name-is3-call.ensures ∙ if3.false, sym name-is4-call.ensures ∙ if4.false, sym c.name_is-5.ensures ∙ c.if-name_is-5.false, sym c.name_is-6.ensures ∙ c.if-name_is-6.false)
+returns c = sym (rw (← c.if-name_is.ensures, ← c.if-name_is-2.ensures, ← c.if-name_is-3.ensures, ← c.if-name_is-4.ensures, ← c.if-name_is-5.ensures, ← c.if-name_is-6.ensures))

@@ -1,23 +1,14 @@
--- `drop_spaces` takes spaces off the end. The loop's invariant: what is left gives the same without its spaces at the end. Assumes nothing.
-use native.Mathlib.Omega.{arith}
+-- `drop_spaces` takes spaces off the end. The loop's invariant: what is left gives the same without its spaces. Assumes nothing.
+use borrow.Author.Rules.{rules}
 use mathlib.Core.Path.{◌∙◌}
-use Rattle.customize_subs.proofs.TextLaws.{back-here, back-next, back_end}
+use Rattle.customize_subs.proofs.TextLaws.{back_more, back_over, back_none}
 use Rattle.customize_subs.proofs.parts.drop_spaces.Goals as goal
 
-pub returns-then-text-i-ne32 : goal.returns-then-text-i-ne32
-returns-then-text-i-ne32 c =
-    let l = c.loop-i in
-    let a = c.args in
-    record { text_value = back-here a.start l.i a.text.now (omega arith) (omega arith) c.if-text-i-ne32.true ∙ l.invariant.1.1; within = (omega arith, omega arith) }
+pub loop-rest-preserved : goal.loop-rest-preserved
+loop-rest-preserved c = back_more c.loop-rest.rest.now (search rules) (search rules) ∙ c.loop-rest.invariant
 
-pub loop-i-preserved : goal.loop-i-preserved
-loop-i-preserved c =
-    let l = c.loop-i in
-    let a = c.args in
-    (omega arith, (omega arith, back-next a.start l.i a.text.now (omega arith) (omega arith) c.if-text-i-ne32.false ∙ l.invariant.1.1))
+pub returns-in_default : goal.returns-in_default
+returns-in_default c = back_none c.loop-rest.rest.now (search rules) ∙ c.loop-rest.invariant
 
-pub returns : goal.returns
-returns c =
-    let l = c.loop-i in
-    let a = c.args in
-    record { text_value = back_end a.start l.i a.text.now c.loop-i-test.false ∙ l.invariant.1.1; within = (omega arith, omega arith) }
+pub returns-in_default-2 : goal.returns-in_default-2
+returns-in_default-2 c = back_over c.loop-rest.rest.now (search rules) (search rules) ∙ c.loop-rest.invariant

@@ -1,12 +1,11 @@
--- `drop_spaces` takes spaces off the end. The loop's invariant: what is left gives the same without its spaces at the end. Assumes nothing.
-use Prim.Native.Nat.{◌≤◌}
+-- `drop_spaces` takes spaces off. The loop's invariant: what is left gives the same without its spaces. Assumes nothing.
 use mathlib.Core.Path.{◌≡◌}
+use lib.ListN.{length}
 use Rattle.customize_subs.specs.Text.{back}
-use Rattle.customize_subs.specs.Places.{between}
 use Rattle.customize_subs.proofs.parts.drop_spaces.Given as goal
 
-abbrev pub invariant-loop-i : goal.invariant-loop-i
-invariant-loop-i l = (l.start ≤ l.i) × ((l.i ≤ l.end) × (back (between l.start l.i l.text) ≡ back (between l.start l.end l.text)))
+abbrev pub invariant-loop-rest : goal.invariant-loop-rest
+invariant-loop-rest l = back l.rest ≡ back l.part
 
-abbrev pub decreases-loop-i : goal.decreases-loop-i
-decreases-loop-i l = l.i
+abbrev pub decreases-loop-rest : goal.decreases-loop-rest
+decreases-loop-rest l = length l.rest

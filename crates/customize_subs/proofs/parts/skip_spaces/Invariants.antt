@@ -1,12 +1,11 @@
--- `skip_spaces` takes spaces off the front. The loop's invariant: what is left gives the same without its spaces in front. Assumes nothing.
-use Prim.Native.Nat.{◌-◌, ◌≤◌}
+-- `skip_spaces` takes spaces off. The loop's invariant: what is left gives the same without its spaces. Assumes nothing.
 use mathlib.Core.Path.{◌≡◌}
+use lib.ListN.{length}
 use Rattle.customize_subs.specs.Text.{front}
-use Rattle.customize_subs.specs.Places.{between}
 use Rattle.customize_subs.proofs.parts.skip_spaces.Given as goal
 
-abbrev pub invariant-loop-i : goal.invariant-loop-i
-invariant-loop-i l = (l.start ≤ l.i) × ((l.i ≤ l.end) × (front (between l.i l.end l.text) ≡ front (between l.start l.end l.text)))
+abbrev pub invariant-loop-rest : goal.invariant-loop-rest
+invariant-loop-rest l = front l.rest ≡ front l.part
 
-abbrev pub decreases-loop-i : goal.decreases-loop-i
-decreases-loop-i l = l.end - l.i
+abbrev pub decreases-loop-rest : goal.decreases-loop-rest
+decreases-loop-rest l = length l.rest

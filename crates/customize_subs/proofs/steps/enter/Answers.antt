@@ -1,5 +1,5 @@
 -- `enter` gives the set of the name alone where the set is empty and the move inserts; else it enters the kinds. Assumes nothing.
-use Rattle.std.proofs.Common.{arith}
+use native.Mathlib.Omega.{arith}
 use Rattle.customize_subs.proofs.SetOfNameLaws.{enter-into-empty}
 use Rattle.customize_subs.proofs.steps.enter.Goals as goal
 

@@ -1,37 +1,25 @@
 -- `is_stop` tells a Hash, a Percent and a one-byte Dots from other tokens, by its kind and its length. Assumes nothing.
-use Prim.Native.Nat.{ℕ}
-use native.Mathlib.Omega.{arith}
-use mathlib.Core.Path.{sym, ap, ◌∙◌}
+use Rattle.std.proofs.Common.{sym, ap, ◌∙◌, ℕ}
 use lib.Dec.{eqb}
-use Rattle.put_rows.proofs.GroupRows.{stop-hash, stop-percent, stop-dots, stop-not}
+use borrow.Author.Tests.{eq-eqb}
+use Rattle.put_rows.proofs.GroupRows.{stop-hash, stop-percent, stop-dots}
+use Rattle.runs.proofs.KeptLaws.{kind-is}
 use Rattle.runs.proofs.NamesLaws.{kind-of, kind-not, one-is}
-use Rattle.token.specs.Line.{line_of, token_at}
+use Rattle.token.specs.Line.{token_at}
+use Rattle.token.specs.Checked.{line_in}
 use Rattle.put_rows.proofs.shorthand.is_stop.Goals as goal
 
-pub length_of-requires : goal.length_of-requires
-length_of-requires c = omega (arith, c.requires.lent.paired, c.requires.at_in_bounds)
+pub returns-then-kind : goal.returns-then-kind
+returns-then-kind c =
+    let line = line_in c.args.line in
+    stop-dots (token_at line c.args.at.0) (kind-of line c.args.at.0 _ c.if-kind.true) _ (one-is _ _ _ c.args.line.lent _ c.requires ∙ ap (λ (n : ℕ). eqb n 1) (sym c.length_of.ensures))
 
-pub returns-in-27 : goal.returns-in-27
-returns-in-27 c =
-    let a = c.args in
-    let line = line_of a.kinds.now a.text.now a.pairs.now in
-    stop-hash (token_at line a.at.0) (kind-of line a.at.0 _ c.in-27.is)
+pub returns-then-kind-2 : goal.returns-then-kind-2
+returns-then-kind-2 c =
+    let line = line_in c.args.line in
+    eq-eqb _ _ c.if-kind-2.true ∙ stop-hash (token_at line c.args.at.0) (kind-of line c.args.at.0 _ c.if-kind-2.true)
 
-pub returns-in-36 : goal.returns-in-36
-returns-in-36 c =
-    let a = c.args in
-    let line = line_of a.kinds.now a.text.now a.pairs.now in
-    stop-percent (token_at line a.at.0) (kind-of line a.at.0 _ c.in-36.is)
-
-pub returns-in-20 : goal.returns-in-20
-returns-in-20 c =
-    let a = c.args in
-    let p = c.requires in
-    let line = line_of a.kinds.now a.text.now a.pairs.now in
-    stop-dots (token_at line a.at.0) (kind-of line a.at.0 _ c.in-20.is) _ (one-is _ _ _ p.lent _ p.at_in_bounds ∙ ap (λ (n : ℕ). eqb n 1) (sym c.length_of.ensures))
-
-pub returns-in_default : goal.returns-in_default
-returns-in_default c =
-    let a = c.args in
-    let line = line_of a.kinds.now a.text.now a.pairs.now in
-    stop-not (token_at line a.at.0) (kind-not line a.at.0 _ c.in_default.in_default-own.rest.0.0.1) (kind-not line a.at.0 _ c.in_default.in_default-own.rest.0.1) (kind-not line a.at.0 _ c.in_default.in_default-own.rest.1)
+pub returns-else-kind-2 : goal.returns-else-kind-2
+returns-else-kind-2 c =
+    let line = line_in c.args.line in
+    sym (kind-is line c.args.at.0 _) ∙ stop-percent (token_at line c.args.at.0) (kind-not line c.args.at.0 _ c.if-kind.false) (kind-not line c.args.at.0 _ c.if-kind-2.false)

@@ -1,6 +1,5 @@
 -- `lead` puts a kind first. The loop's invariant: what is passed has moved by one place, and the rest is pushed by what is
 -- carried. Assumes nothing.
-use Prim.Native.Nat.{◌-◌, ◌≤◌}
 use mathlib.Core.Path.{◌≡◌}
 use mathlib.Core.List.{◌++◌}
 use lib.ListN.{length, take, drop}
@@ -9,7 +8,4 @@ use Rattle.substitutions.specs.Loops.{pushed}
 use Rattle.substitutions.proofs.places.lead.Given as goal
 
 abbrev pub invariant-loop-i : goal.invariant-loop-i
-invariant-loop-i l = (length l.initial.p ≡ 7) × ((length l.p ≡ 7) × ((l.i ≤ 7) × (take l.i l.p ++ pushed l.carried l.k (drop l.i l.p) ≡ led l.k l.initial.p)))
-
-abbrev pub decreases-loop-i : goal.decreases-loop-i
-decreases-loop-i l = 7 - l.i
+invariant-loop-i l = (length l.p ≡ 7) × (take l.i l.p ++ pushed l.carried l.k (drop l.i l.p) ≡ led l.k l.initial.p)

@@ -1,13 +1,10 @@
 -- `take_flags` lets each place take its kind's flag. The loop's invariant: the flags still there, and the places still to come,
 -- leave what the whole leaves. Assumes nothing.
-use Prim.Native.Nat.{◌-◌, ◌≤◌, ◌<◌}
+use Prim.Native.Nat.{◌<◌}
 use mathlib.Core.Path.{◌≡◌}
-use lib.ListN.{length, drop}
+use lib.ListN.{drop}
 use Rattle.substitutions.specs.Loops.{left}
 use Rattle.substitutions.proofs.rules.take_flags.Given as goal
 
 abbrev pub invariant-loop-i : goal.invariant-loop-i
-invariant-loop-i l = (length l.places ≡ 7) × ((l.i ≤ 7) × ((l.f < 128) × (left l.f (drop l.i l.places) ≡ left l.flags l.places)))
-
-abbrev pub decreases-loop-i : goal.decreases-loop-i
-decreases-loop-i l = 7 - l.i
+invariant-loop-i l = (l.f < 128) × (left l.f (drop l.i l.places) ≡ left l.flags l.places)

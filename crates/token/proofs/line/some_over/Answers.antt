@@ -1,17 +1,17 @@
--- `some_over` looks for a kind over 50. The loop's invariant: the rest holds one exactly where the whole does. Assumes nothing.
-use native.Mathlib.Omega.{arith}
-use mathlib.Core.Path.{refl, ◌∙◌}
-use Rattle.token.proofs.Checks.{over-here, over-next, over-end}
+-- `some_over` asks of each kind whether it is over the largest.
+use Rattle.std.proofs.Common.{rules, tests, ◌≡◌, refl, ℕ, List, [], ◌∷◌, ltb}
+use Rattle.std.proofs.lemmas.Iterator.{YieldsList-from_slice}
+use Rattle.std.proofs.lemmas.Iterator.Search.{any_from_yields_List}
+use Rattle.std.specs.List.{list_any}
+use Rattle.token.specs.Kind.{largest}
+use Rattle.token.specs.Line.{some_over}
 use Rattle.token.proofs.line.some_over.Goals as goal
 
-pub loop-i-init : goal.loop-i-init
-loop-i-init c = (omega arith, refl)
-
-pub returns-then-kinds-i-gt-WORD : goal.returns-then-kinds-i-gt-WORD
-returns-then-kinds-i-gt-WORD c = over-here c.args.kinds.now c.loop-i.i (omega arith) c.if-kinds-i-gt-WORD.true ∙ c.loop-i.invariant.1
-
-pub loop-i-preserved : goal.loop-i-preserved
-loop-i-preserved c = (omega arith, over-next c.args.kinds.now c.loop-i.i (omega arith) c.if-kinds-i-gt-WORD.false ∙ c.loop-i.invariant.1)
+over-any : (ks : List ℕ) → some_over ks ≡ list_any (ltb largest) ks
+unfolding some_over
+over-any [] = refl
+over-any (k ∷ ks) = rw (over-any ks) refl
 
 pub returns : goal.returns
-returns c = over-end c.args.kinds.now c.loop-i.i c.loop-i-test.false ∙ c.loop-i.invariant.1
+returns c =
+    rw over-any (any_from_yields_List (ltb largest) _ _ _ c.any.ensures.ran (YieldsList-from_slice c.args.kinds.now cc) (λ x b q k. search (rules, tests)))

@@ -1,0 +1,91 @@
+// What is printed of a line of the file: what the reader answers, or what is wrong with the line.
+use crate::call::{Asked, Call};
+use crate::division::{parts_of, signs};
+use crate::reader::{self, Reading};
+use crate::rows::Shown;
+use crate::soft::{softened, write_line};
+use crate::tokens::{Fault, Line};
+use attr_list::entries::Entry;
+use refusals::Refusal;
+use std::io;
+
+// Tells of a line of the file: a comment is printed as it stands, a line of blanks is passed over.
+pub(crate) fn tell(rt: &(impl Print + AllocGlobal), number: u64, line: &[u8]) -> io::Result<()> {
+    let Some(start) = line.iter().position(|b| *b != b' ') else {
+        return Ok(());
+    };
+    let written = &line[start..];
+    if written.starts_with(b"#") {
+        return write_line(rt, written);
+    }
+    match Call::read(rt.alloc(), written) {
+        Ok(call) => tell_call(rt, number, &call),
+        Err(Fault::Wrong(problem, word)) => {
+            print!(rt; "line {number}: {problem}: ")?;
+            write_line(rt, word)
+        }
+        Err(Fault::OutOfMemory(error)) => Err(io::Error::from(error)),
+    }
+}
+
+// Prints a line's text, and what the reader says of the line.
+fn tell_call(rt: &(impl Print + AllocGlobal), number: u64, call: &Call<'_>) -> io::Result<()> {
+    print!(rt; "line {number}, ")?;
+    write_line(rt, call.word)?;
+    rt.write_all(b"  ")?;
+    write_line(rt, &call.line.text)?;
+    match call.asked {
+        Asked::IsBlock => match reader::is_block(rt.alloc(), &call.line)? {
+            Ok(true) => println!(rt; "  a block attribute list: yes"),
+            Ok(false) => println!(rt; "  a block attribute list: no"),
+            Err(refusal) => tell_refusal(rt, refusal),
+        },
+        Asked::List(entry) => match reader::read(rt.alloc(), entry, &call.line)? {
+            Ok(reading) => tell_reading(rt, entry, &call.line, &reading),
+            Err(refusal) => tell_refusal(rt, refusal),
+        },
+    }
+}
+
+// Writes a refusal: its number and its meaning.
+fn tell_refusal(rt: &impl Print, refusal: Refusal) -> io::Result<()> {
+    println!(rt; "  refused, {}: {refusal}", usize::from(refusal))
+}
+
+// Prints what a reading finds in a line: its division, its rows, and how many tokens it consumed.
+fn tell_reading(
+    rt: &(impl Print + AllocGlobal),
+    entry: Entry,
+    line: &Line,
+    reading: &Reading,
+) -> io::Result<()> {
+    draw_division(rt, entry, line, reading.consumed)?;
+    let text = softened(rt.alloc(), &line.text)?;
+    let shown = Shown {
+        tokens: &line.tokens,
+        text: &text,
+    };
+    for row in &reading.rows {
+        shown.write_row(rt, *row)?;
+    }
+    match reading.consumed {
+        1 => println!(rt; "  1 token consumed"),
+        tokens => println!(rt; "  {tokens} tokens consumed"),
+    }
+}
+
+// Draws the division of a line, under its text, up to the closing bracket, which is the last token consumed.
+fn draw_division(
+    rt: &(impl Print + AllocGlobal),
+    entry: Entry,
+    line: &Line,
+    consumed: usize,
+) -> io::Result<()> {
+    let alloc = rt.alloc();
+    let bracket = line.tokens.get(consumed.saturating_sub(1));
+    let closing = bracket.map_or(0, |token| token.bytes().start);
+    let commas = reader::commas(alloc, entry, line)?;
+    let parts = parts_of(alloc, &line.tokens, &commas, closing)?;
+    rt.write_all(b"  ")?;
+    write_line(rt, &signs(alloc, &line.text, &parts)?)
+}

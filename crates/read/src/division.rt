@@ -1,0 +1,86 @@
+// How a line that is read is divided, drawn under its text.
+ghost use Rattle.std.specs.Prelude.{◌<◌, length};
+
+use crate::tokens::Token;
+use std::alloc::{AllocError, Global};
+
+// What a byte of the text belongs to.
+#[derive(Clone, Copy, PartialEq, Eq)]
+pub(crate) enum Part {
+    Nothing,
+    Attribute,
+    Comma,
+}
+
+// Marks the bytes from `from` up to `to`.
+fn mark(parts: &mut [Part], from: usize, to: usize, part: Part) {
+    if let Some(marked) = parts.get_mut(from..to) {
+        marked.fill(part);
+    }
+}
+
+// What each byte belongs to of a text that ends where the closing bracket begins, at byte `closing`.
+pub(crate) fn parts_of(
+    alloc: Global,
+    tokens: &[Token],
+    commas: &[u16],
+    closing: usize,
+) -> Result<Vec<Part>, AllocError> {
+    let mut parts = vec![in alloc; Part::Nothing; closing]?;
+    let mut start = 0;
+    for place in commas {
+        if let Some(comma) = tokens.get(*place as usize) {
+            let bytes = comma.bytes();
+            mark(&mut parts, start, bytes.start, Part::Attribute);
+            mark(&mut parts, bytes.start, bytes.end, Part::Comma);
+            start = bytes.end;
+        }
+    }
+    mark(&mut parts, start, closing, Part::Attribute);
+    Ok(parts)
+}
+
+// Whether a byte goes on with a character: in UTF-8 these are the bytes from 128 to 191.
+fn goes_on(b: u8) -> bool {
+    matches!(b, 128..=191)
+}
+
+// Whether the byte at a place is of an attribute.
+fn is_attribute(parts: &[Part], at: usize) -> bool {
+    at < parts.len() && parts[at] == Part::Attribute
+}
+
+// The sign under a character from `at` up to `next`: of an attribute a bracket where it begins and where it ends.
+fn sign(parts: &[Part], at: usize, next: usize) -> u8
+    requires { at < length parts.now }
+{
+    match parts[at] {
+        Part::Nothing => b' ',
+        Part::Comma => b'^',
+        Part::Attribute => {
+            let before = at > 0 && is_attribute(parts, at - 1);
+            match (before, is_attribute(parts, next)) {
+                (true, true) => b'-',
+                (true, false) => b']',
+                (false, true) => b'[',
+                (false, false) => b'|',
+            }
+        }
+    }
+}
+
+// The signs under a text, one for each character. By places and no zip: a sign looks at the parts before and behind its own.
+pub(crate) fn signs(alloc: Global, text: &[u8], parts: &[Part]) -> Result<Vec<u8>, AllocError> {
+    let mut drawn = Vec::new(alloc);
+    for at in 0..parts.len().min(text.len()) {
+        if at == 0 || !goes_on(text[at]) {
+            let width = text[at..]
+                .iter()
+                .skip(1)
+                .take_while(|b| goes_on(**b))
+                .count();
+            drawn.push(sign(parts, at, at + 1 + width))?;
+        }
+    }
+    Ok(drawn)
+}

@@ -1,0 +1,77 @@
+// What the library is asked of a line of tokens: no other file of this program calls one of its readings.
+ghost use Rattle.std.specs.Prelude.{◌≡◌, vec_len};
+
+use crate::tokens::Line;
+use attr_list::entries::Entry;
+use closing::LinkMacro;
+use refusals::Refusal;
+use std::alloc::{AllocError, Global};
+use token::line::MOST_TOKENS;
+
+// What a reading finds: its rows, of five numbers each, and how many tokens it consumed.
+#[derive(Drop)]
+pub(crate) struct Reading {
+    pub(crate) rows: Vec<[u32; 5]>,
+    pub(crate) consumed: usize,
+}
+
+// The kinds and the pairs of a line, each in an array of its own, as the library takes them.
+#[derive(Drop)]
+struct Lent {
+    kinds: Vec<u8>,
+    pairs: Vec<[u32; 2]>,
+    ghost paired: { vec_len pairs ≡ vec_len kinds },
+}
+
+impl Lent {
+    fn new(alloc: Global, line: &Line) -> Result<Lent, AllocError> {
+        Ok(Lent {
+            kinds: line.tokens.iter().map(|t| t.kind as u8).collect(alloc)?,
+            pairs: line.tokens.iter().map(|t| [t.start, t.len]).collect(alloc)?,
+        })
+    }
+}
+
+// Whether a line is a block attribute list.
+pub(crate) fn is_block(alloc: Global, line: &Line) -> Result<Result<bool, Refusal>, AllocError> {
+    let lent = Lent::new(alloc, line)?;
+    let pairs = lent.pairs.as_flattened();
+    Ok(attr_list::is_block_attr_list(&lent.kinds, &line.text, pairs))
+}
+
+// What one of the four readings answers.
+pub(crate) fn read(
+    alloc: Global,
+    entry: Entry,
+    line: &Line,
+) -> Result<Result<Reading, Refusal>, AllocError> {
+    let lent = Lent::new(alloc, line)?;
+    let pairs = lent.pairs.as_flattened();
+    let mut rows = vec![in alloc; [0u32; 5]; MOST_TOKENS]?;
+    let buffer = rows.as_flattened_mut();
+    let answer = attr_list::parse_attr_list(entry, &lent.kinds, &line.text, pairs, buffer);
+    Ok(answer.map(|read| {
+        rows.truncate(read.rows);
+        Reading {
+            rows,
+            consumed: read.consumed,
+        }
+    }))
+}
+
+// The places of the commas that divide a line that is read: a link's text is not divided.
+pub(crate) fn commas(alloc: Global, entry: Entry, line: &Line) -> Result<Vec<u16>, AllocError> {
+    let lent = Lent::new(alloc, line)?;
+    let tokens = lent.kinds.len().min(MOST_TOKENS);
+    let kinds = &lent.kinds[..tokens];
+    if entry == Entry::Link {
+        let holds = closing::link_macro(kinds, lent.pairs[..tokens].as_flattened());
+        if matches!(holds, LinkMacro::AsText(_)) {
+            return Ok(Vec::new(alloc));
+        }
+    }
+    let mut commas = vec![in alloc; 0u16; tokens]?;
+    let found = delimiters::find_delimiters(kinds, &mut commas);
+    commas.truncate(found.commas);
+    Ok(commas)
+}

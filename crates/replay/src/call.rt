@@ -1,0 +1,33 @@
+// What a recorded call calls, by its first number.
+use attr_list::entries::Entry;
+use substitutions::Mode;
+
+// A reading of a list, whether a line is a block attribute list, or from_meta.
+#[derive(Clone, Copy)]
+pub(crate) enum Call {
+    List(Entry),
+    IsBlock,
+    Customize(Mode),
+}
+
+// A number that names no call.
+#[derive(Clone, Copy)]
+pub(crate) struct NoCall;
+
+impl TryFrom<u64> for Call {
+    type Error = NoCall;
+
+    // 0, which is what an empty line reads as, is a link's as well.
+    fn try_from(number: u64) -> Result<Self, NoCall> {
+        match number {
+            1 => Ok(Call::List(Entry::Block)),
+            2 => Ok(Call::List(Entry::BlockMacro)),
+            3 => Ok(Call::List(Entry::Inline)),
+            0 | 4 => Ok(Call::List(Entry::Link)),
+            5 => Ok(Call::IsBlock),
+            6 => Ok(Call::Customize(Mode::Port)),
+            7 => Ok(Call::Customize(Mode::Sheet)),
+            _ => Err(NoCall),
+        }
+    }
+}

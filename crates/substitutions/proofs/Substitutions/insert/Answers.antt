@@ -1,0 +1,20 @@
+-- `insert` refuses or gives what insert gives. Assumes nothing.
+use mathlib.Core.Path.{sym}
+use Rattle.std.proofs.lemmas.Result.{err_from_is_err_and}
+use Rattle.substitutions.specs.Kinds.{number_of}
+use Rattle.substitutions.specs.Moves.{room, insert_of, refusal_of, insert_answer}
+use Rattle.substitutions.proofs.AnswersLaws.{turned-away, moved_to}
+use Rattle.substitutions.proofs.Substitutions.insert.Goals as goal
+
+pub returns-in_err-check : goal.returns-in_err-check
+unfolding insert_answer
+returns-in_err-check c =
+    let a = c.args in
+    let p = err_from_is_err_and c.from_residual.result c.from_residual.ensures.1 in
+    rw (p.1, p.2) (turned-away _ (refusal_of a.mode a.self) a.self (insert_of (room a.mode) (number_of a.sub) a.self) c.in_err-check.ensures)
+
+pub returns : goal.returns
+unfolding insert_answer
+returns c =
+    let a = c.args in
+    moved_to (refusal_of a.mode a.self) a.self c.insert.result (insert_of (room a.mode) (number_of a.sub) a.self) (sym c.in_ok-check.ensures) c.insert.ensures

@@ -1,8 +1,0 @@
--- `only_special_chars` is the set of its order, as the definition computes. Assumes nothing.
-use Rattle.std.proofs.Common.{refl}
-use Rattle.substitutions.specs.Order.{flags_of}
-use Rattle.substitutions.proofs.starting.only_special_chars.Goals as goal
-
-pub returns : goal.returns
-unfolding flags_of
-returns c = refl

@@ -1,0 +1,15 @@
+-- What checking a line answers: the line itself, or the refusal of the first check that applies.
+use Rattle.std.specs.Prelude.{◌≡◌, Result, Ok, Err}
+use Rattle.refusals.specs.declared.Refusal.{Refusal}
+use Rattle.refusals.specs.Numbered.{number_of}
+use Rattle.token.specs.declared.lent.Line as lent
+use Rattle.token.specs.Line.{Line, most_tokens, refusal}
+use Rattle.token.specs.Lent.{line}
+
+-- the line that a checked one is
+abbrev pub line_in : lent.Line → Line
+line_in l = line l.kinds l.text l.pairs
+
+abbrev pub Checked : Line → Result lent.Line Refusal → Type 0
+Checked l (Ok t) = (refusal most_tokens l ≡ 0) × (line_in t ≡ l)
+Checked l (Err r) = number_of r ≡ refusal most_tokens l

@@ -3,13 +3,10 @@ use Prim.Native.Nat.{ℕ, ◌+◌, ◌≤◌, ◌<◌, min}
 use native.Mathlib.Omega.{arith}
 use native.Mathlib.Decide.{dec_lt}
 use mathlib.Core.Bool.{true, false}
-use mathlib.Core.Path.{◌≡◌, refl, sym, ap, subst, ◌∙◌}
+use mathlib.Core.Path.{◌≡◌, refl, sym, ap, ◌∙◌}
 use mathlib.Core.List.{List, [], ◌∷◌}
 use lib.ListN.{get_or}
-use Rattle.std.specs.Borrow.{Bor}
-use Rattle.runs.specs.declared.places.Places as at
 use Rattle.token.specs.declared.Run.{Run}
-use Rattle.token.specs.declared.TokenPlace.{TokenPlace}
 use Rattle.token.specs.Kind.{whitespace}
 use Rattle.token.specs.Line.{Line, Token, line_of, token_at}
 use Rattle.runs.specs.Run.{kept, is_whitespace, is_equals, without, unquote, run_of, in_run}
@@ -22,15 +19,6 @@ use Rattle.attr_ir.specs.declared.AttrIr.{AttrIr}
 use Rattle.attr_ir.specs.declared.AttrIr.TheVariants as ir
 use Rattle.attr_ir.specs.Ir.{Ir, options, roles, ident, plain, named, name_tokens, less_first, value, value_tokens, name_of, named_ir, key_value_ir, runs_of, tokens_of}
 use Rattle.attr_ir.specs.Places.{InLine, Bounded, IrOf}
-
--- ---- what holds of the places of some tokens holds of the tokens
-
-pub of-places : (P : List ℕ → ℕ → ℕ → Type 0) (p : at.Places) {ks : Bor (List ℕ)} {from to : TokenPlace} → record { kinds : p.kinds ≡ ks; from : p.from ≡ from; to : p.to ≡ to } → P p.kinds.now p.from.0 p.to.0 → P ks.now from.0 to.0
-of-places P p {ks} {from} {to} e w =
-    subst (λ (x : Bor (List ℕ)). P x.now from.0 to.0) e.kinds (subst (λ (x : TokenPlace). P p.kinds.now x.0 to.0) e.from (subst (λ (x : TokenPlace). P p.kinds.now p.from.0 x.0) e.to w))
-
-pub equals-found : (p : at.Places) (m : ℕ) {ks : Bor (List ℕ)} {from to : TokenPlace} → record { kinds : p.kinds ≡ ks; from : p.from ≡ from; to : p.to ≡ to } → FoundAt is_equals p.kinds.now p.from.0 p.to.0 m → FoundAt is_equals ks.now from.0 to.0 m
-equals-found p m e w = of-places (λ ks from to. FoundAt is_equals ks from to m) p e w
 
 -- ---- the value
 

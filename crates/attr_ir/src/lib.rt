@@ -1,11 +1,11 @@
 // What an attribute is: its reading decided from the left, and its runs.
 #![tactic(auto)]
 
-ghost use Rattle.std.specs.Prelude.{◌≡◌, ◌&&◌, ◌||◌, not, List, ℕ, eqb};
+ghost use Rattle.std.specs.Prelude.{◌≡◌, ◌&&◌, ◌||◌, not, eqb};
 ghost use Rattle.token.specs.Kind.{dots, hash, percent};
-ghost use Rattle.token.specs.Line.{line_of};
 ghost use Rattle.token.specs.Checked.{line_in};
-ghost use Rattle.runs.specs.Run.{kept, quoted};
+ghost use Rattle.runs.specs.Run.{quoted};
+ghost use Rattle.runs.specs.Kept.{OfKept};
 ghost use Rattle.attr_ir.specs.Ir.{attr_ir};
 ghost use Rattle.attr_ir.specs.Places.{IrOf};
 
@@ -34,7 +34,8 @@ pub enum Name {
     Other,
 }
 
-// An attribute by its runs. `cut` says whether a positional is to be cut: a flag of the run and no variant, since its row is the same where it is not cut.
+// An attribute by its runs. `cut` says whether a positional is to be cut, as the definition `Ir.positional` has it: a flag and no case of its own, since what
+// takes an attribute by its runs, `put_ir` and the definitions `runs_of` and `tokens_of`, takes a positional whole; `run_to_cut` alone asks for the flag.
 #[derive(Clone, Copy, PartialEq, Eq)]
 pub enum AttrIr {
     Positional { run: Run, cut: bool },
@@ -59,12 +60,14 @@ pub fn symbol_kind(kind: u8) -> bool
 // Whether a positional is to be cut, of the tokens kept of some places: it is asked for, and no quotes are taken. Most are not asked to be cut, and
 // their ends are then not looked for.
 fn to_cut(places: Places<'_>, asked: bool) -> bool
-    ensures { (text pairs : List ℕ) → result ≡ (asked && not (quoted (kept (line_of places.entry.kinds.now text pairs) places.entry.from.0 places.entry.to.0))) }
+    ensures { OfKept (λ ts. asked && not (quoted ts)) places.entry result }
 {
     asked && !places.quoted()
 }
 
-// An attribute by its runs, of the tokens kept, which are trimmed; `block` says that the entry is the block entry.
+// An attribute by its runs, of the tokens kept, which are trimmed; `block` says that the entry is the block entry. A bool here and in all that this calls or
+// that calls it: the rules ask this one question, and an enum of the four entries would be asked it again at each place. It is no field of `Tokens`, which is
+// made anew for each part of an attribute, and most of whose users do not ask it.
 pub fn attr_ir(tokens: Tokens<'_>, block: bool) -> AttrIr
     ensures { IrOf (attr_ir block) (line_in tokens.entry.line) tokens.entry.from.0 tokens.entry.to.0 result }
 {

@@ -1,8 +1,8 @@
 // A named attribute: its name, what the name asks for, and its value.
-ghost use Rattle.std.specs.Prelude.{◌≡◌, List, ℕ};
-ghost use Rattle.token.specs.Line.{line_of};
+ghost use Rattle.std.specs.Prelude.{◌≡◌};
 ghost use Rattle.token.specs.Checked.{line_in};
 ghost use Rattle.runs.specs.Run.{is_whitespace, without, kept, run_of};
+ghost use Rattle.runs.specs.Kept.{OfKept};
 ghost use Rattle.runs.specs.Names.{bytes};
 ghost use Rattle.runs.specs.Places.{Part};
 ghost use Rattle.attr_ir.specs.Ir.{value, name_of, key_value_ir};
@@ -33,9 +33,10 @@ fn name_of(tokens: Tokens<'_>) -> Name
     Name::Other
 }
 
-// The run of a value: one Whitespace dropped, unquoted.
+// The run of a value: one Whitespace dropped, unquoted. Not inlined: it has two copies of `unquote`.
+#[inline(never)]
 fn value_run(places: Places<'_>) -> Run
-    ensures run { (text pairs : List ℕ) → result ≡ run_of (value (kept (line_of places.entry.kinds.now text pairs) places.entry.from.0 places.entry.to.0)) }
+    ensures run { OfKept (λ ts. run_of (value ts)) places.entry result }
     ensures part { Part value places.entry.kinds.now places.entry.from.0 places.entry.to.0 result }
 {
     let start = places.first_kept();

@@ -15,14 +15,11 @@ use Rattle.refusals.specs.Numbered.{number_of}
 use Rattle.refusals.specs.Refusals.{rows_too_short, no_closing_bracket}
 use Rattle.refusals.proofs.Laws.{number-some}
 use Rattle.token.specs.Kind.{close_bracket, kind_at}
-use Rattle.token.specs.Line.{Line, line_of, refusal, most_tokens}
-use Rattle.token.specs.Lent.{Lent}
-use Rattle.token.proofs.LineLaws.{lent}
+use Rattle.token.specs.Line.{Line, line_of, refusal}
 use Rattle.runs.specs.Run.{kept, unquote, run_of}
-use Rattle.runs.specs.Places.{Part}
 use Rattle.row.specs.declared.Row.{Row}
 use Rattle.row.specs.declared.tag.Tag.TheVariants.{Positional}
-use Rattle.row.specs.Row.{width, numbers, all_numbers, one_run, positional, room_for, with_rows, Wrote, Fits}
+use Rattle.row.specs.Row.{width, numbers, all_numbers, one_run, positional, room_for, with_rows, Wrote}
 use Rattle.row.proofs.Laws.{wrote_one}
 use Rattle.delimiters.specs.Delimit.{dividing, parted}
 use Rattle.delimiters.specs.Divide.{Ascending}
@@ -40,10 +37,10 @@ use Rattle.attr_list.specs.declared.entries.Entry.TheVariants.{Block, BlockMacro
 use Rattle.attr_list.specs.Entry.{is_block, full_line}
 use Rattle.attr_list.specs.Answer.{Answer, Refused, Read}
 use Rattle.list_rows.specs.ListRows.{parted_rows, list_rows, rows_from}
-use Rattle.attr_list.specs.Reading.{Reading, refused, gives, answer_of, Gives, list_to, list_of, text_to, link_to, read_by, unless_closed, lent_refusal, unless_refused, reading}
+use Rattle.attr_list.specs.Reading.{Reading, refused, gives, answer_of, Gives, list_to, list_of, text_to, read_by, unless_closed, lent_refusal, unless_refused, reading}
 use Rattle.attr_list.specs.Outcome.{Outcome, WhenReadAsList}
 use Rattle.attr_list.proofs.Laws.{bracket-some}
-use Rattle.attr_list.proofs.ReadAsListLaws.{Accepts, accepts, read-as-list}
+use Rattle.attr_list.proofs.ReadAsListLaws.{read-as-list}
 
 pub gives_as : (given : List ℕ) (r s : Reading) (a : Answer) (left : List ℕ) → Gives given r a left → r ≡ s → Gives given s a left
 gives_as given r s a left w e = subst (λ (x : Reading). Gives given x a left) e w
@@ -66,9 +63,9 @@ module _ (most : ℕ) (l : Line) (room : ℕ) where
   unfolding lent_refusal
   refused-room n e z f = rw (sym e ∙ z, f)
 
-  pub refused_none : (n : ℕ) → n ≡ refusal most l → n ≡ 0 → room_for (length l.kinds) room ≡ true → 0 ≡ lent_refusal most l room
+  pub refused_none : refusal most l ≡ 0 → room_for (length l.kinds) room ≡ true → 0 ≡ lent_refusal most l room
   unfolding lent_refusal
-  refused_none n e z f = rw (sym e ∙ z, f)
+  refused_none z f = rw (z, f)
 
   -- what is read where none of them refuses
   module _ (entry : Entry) where
@@ -111,8 +108,8 @@ module _ (most : ℕ) (e : Entry) (l : Line) (given : List ℕ) where
   outcome-room z f = outcome-refused rows_too_short (refused-room most l (length given) 0 (sym z) refl f) (λ e. omega (arith, e))
 
   -- none of them does
-  pub outcome-read : 0 ≡ lent_refusal most l (length given) → (a : Answer) (left : List ℕ) → Gives given (unless_closed l.kinds (read_by e l)) a left → Outcome most e l given a left
-  outcome-read z a left w = gives-outcome a left (gives_as given _ _ a left w (read_taken most l (length given) e z))
+  pub outcome-read : refusal most l ≡ 0 → room_for (length l.kinds) (length given) ≡ true → (a : Answer) (left : List ℕ) → Gives given (unless_closed l.kinds (read_by e l)) a left → Outcome most e l given a left
+  outcome-read z f a left w = gives-outcome a left (gives_as given _ _ a left w (read_taken most l (length given) e (refused_none most l (length given) z f)))
 
 -- ---- an entry that is no link reads a list
 
@@ -137,15 +134,15 @@ open_gives kinds r given h a left w = gives_as given r (unless_closed kinds r) a
 
 -- ---- a list
 
-module _ (kinds text pairs : List ℕ) (full : Bool) (c : Option TokenPlace) (told : numbers_of c ≡ numbers_of (closing full kinds)) where
+module _ (kinds : List ℕ) (full : Bool) (c : Option TokenPlace) (told : numbers_of c ≡ numbers_of (closing full kinds)) where
   is : c ≡ closing full kinds
   is = same_case c (closing full kinds) told
 
   pub end_is : 0 < length kinds → (end : TokenPlace) → c ≡ Some end → IsBracket kinds end.0
   end_is some end e = closes-bracket kinds some full end.0 (subst (Closed kinds full) (sym is ∙ e) (closing-closes kinds some full))
 
-  pub list-nowhere : (block : Bool) (given : List ℕ) → c ≡ None → Gives given (list_of (line_of kinds text pairs) full block) (Refused no_closing_bracket) given
-  list-nowhere block given e = gives_as given (refused no_closing_bracket) _ (Refused no_closing_bracket) given (gives-refused given no_closing_bracket) (ap (list_to (line_of kinds text pairs) block) (sym e ∙ is))
+  pub list-nowhere : (text pairs : List ℕ) (block : Bool) (given : List ℕ) → c ≡ None → Gives given (list_of (line_of kinds text pairs) full block) (Refused no_closing_bracket) given
+  list-nowhere text pairs block given e = gives_as given (refused no_closing_bracket) _ (Refused no_closing_bracket) given (gives-refused given no_closing_bracket) (ap (list_to (line_of kinds text pairs) block) (sym e ∙ is))
 
   module _ (some : 0 < length kinds) (end : TokenPlace) (e : c ≡ Some end) (cs : List ℕ) (same : cs ≡ dividing kinds) where
     pub list-commas : Ascending 0 cs end.0
@@ -153,8 +150,8 @@ module _ (kinds text pairs : List ℕ) (full : Bool) (c : Option TokenPlace) (to
         subst (λ (ps : List ℕ). Ascending 0 ps end.0) (sym same)
         (dividing-ascend-to kinds end.0 (bracket-past kinds end.0 (end_is some end e).bracket))
 
-    pub list-gives : (kind_at kinds 0 ≡ close_bracket → ⊥) → (block : Bool) (given left : List ℕ) (r : ℕ) → Wrote given 0 (parted_rows (line_of kinds text pairs) block cs end.0) left r → Gives given (list_of (line_of kinds text pairs) full block) (Read r (end.0 + 1)) left
-    list-gives h block given left r w =
+    pub list-gives : (text pairs : List ℕ) → (kind_at kinds 0 ≡ close_bracket → ⊥) → (block : Bool) (given left : List ℕ) (r : ℕ) → Wrote given 0 (parted_rows (line_of kinds text pairs) block cs end.0) left r → Gives given (list_of (line_of kinds text pairs) full block) (Read r (end.0 + 1)) left
+    list-gives text pairs h block given left r w =
         let parts : parted 0 cs end.0 ≡ Rattle.delimiters.specs.Delimit.attributes kinds end.0 = ap (λ (ps : List ℕ). parted 0 ps end.0) same ∙ sym (attributes-some kinds end.0 (bracket-some kinds h end.0 (end_is some end e))) in
         let rows : parted_rows (line_of kinds text pairs) block cs end.0 ≡ list_rows (line_of kinds text pairs) block end.0 = ap (λ ss. (rows_from (line_of kinds text pairs) block false ss).rows) parts in
         let count : r ≡ length (parted_rows (line_of kinds text pairs) block cs end.0) = omega (arith, w.count) in
@@ -164,12 +161,6 @@ module _ (kinds text pairs : List ℕ) (full : Bool) (c : Option TokenPlace) (to
 
 -- ---- a link
 
--- what the brackets hold is read so
-pub link-gives : (l : Line) (m known : LinkMacro) (given : List ℕ) → holds_of m ≡ holds_of (link_macro l.kinds l.pairs) → m ≡ known → (a : Answer) (left : List ℕ) → Gives given (link_to l known) a left → Gives given (link_to l (link_macro l.kinds l.pairs)) a left
-link-gives l m known given is told a left w =
-    gives_as given (link_to l known) (link_to l (link_macro l.kinds l.pairs)) a left w
-    (ap (λ (x : LinkMacro). link_to l x) (sym told ∙ same-link m (link_macro l.kinds l.pairs) is))
-
 -- its text
 
 pub text-among : (kinds pairs : List ℕ) (m : LinkMacro) → holds_of m ≡ holds_of (link_macro kinds pairs) → 0 < length kinds → (end : TokenPlace) → m ≡ AsText end → end.0 < length kinds
@@ -177,33 +168,10 @@ text-among kinds pairs m is some end e =
     let w : end.0 ≤ length kinds - 1 = subst (Within (length kinds - 1)) (sym (same-link m (link_macro kinds pairs) is) ∙ e) (link-within kinds pairs) in
     omega arith
 
--- the row of a run of the line fits the buffer's numbers
-pub text-fits : (f : _) (kinds text pairs : List ℕ) (from to : ℕ) (r : Run) (row : Row) → Lent kinds text pairs → to ≤ length kinds → Part f kinds from to r → row ≡ one_run Positional r → Fits row
-text-fits f kinds text pairs from to r row l h w e =
-    subst Fits (sym e)
-    (record { first_place = omega (arith, w.within, l.few); first_count = omega (arith, w.within, l.few); second_place = omega arith; second_count = omega arith })
-
 module _ (kinds text pairs : List ℕ) (end : ℕ) (given : List ℕ) where
-  pub text-not : (kind_at kinds end ≡ close_bracket → ⊥) → Gives given (text_to (line_of kinds text pairs) end) (Refused no_closing_bracket) given
-  text-not h =
-      gives_as given (refused no_closing_bracket) _ (Refused no_closing_bracket) given (gives-refused given no_closing_bracket)
-      (sym (ap (λ (b : Bool). cond b (gives (positional (run_of (unquote (kept (line_of kinds text pairs) 0 end))) ∷ []) (end + 1)) (refused no_closing_bracket)) (ne_eqb (kind_at kinds end) close_bracket h)))
-
   pub text-gives : kind_at kinds end ≡ close_bracket → (r : Run) (row : Row) (left : List ℕ) → row ≡ one_run Positional r → r ≡ run_of (unquote (kept (line_of kinds text pairs) 0 end)) → left ≡ sets given (width * 0) (numbers row) → Gives given (text_to (line_of kinds text pairs) end) (Read 1 (end + 1)) left
   text-gives h r row left e f fills =
       let same : row ≡ positional (run_of (unquote (kept (line_of kinds text pairs) 0 end))) = e ∙ ap (one_run Positional) f in
       gives_as given (gives (positional (run_of (unquote (kept (line_of kinds text pairs) 0 end))) ∷ []) (end + 1)) _ (Read 1 (end + 1)) left
       (record { answer = refl; buffer = fills ∙ ap (λ (x : Row). sets given (width * 0) (numbers x)) same ∙ (wrote_one given 0 (positional (run_of (unquote (kept (line_of kinds text pairs) 0 end))))).buffer })
       (sym (ap (λ (b : Bool). cond b (gives (positional (run_of (unquote (kept (line_of kinds text pairs) 0 end))) ∷ []) (end + 1)) (refused no_closing_bracket)) (eq-eqb (kind_at kinds end) close_bracket h)))
-
--- ---- a line that 1 to 7 do not refuse
-
-module _ (most : ℕ) (kinds text pairs : List ℕ) (room : ℕ) (few : most ≤ most_tokens) (z : 0 ≡ lent_refusal most (line_of kinds text pairs) room) where
-  went : Accepts most (line_of kinds text pairs) room
-  went = accepts most (line_of kinds text pairs) room (sym z)
-
-  pub read-lent : Lent kinds text pairs
-  read-lent = lent most kinds text pairs few went.line
-
-  pub read-room : width * length kinds ≤ room
-  read-room = went.fits

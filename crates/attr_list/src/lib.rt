@@ -11,7 +11,7 @@ ghost use Rattle.attr_list.specs.Outcome.{Outcome};
 ghost use Rattle.attr_list.specs.Block.{block_line};
 
 use block::bracketed;
-use brackets::{read_link, read_list};
+use brackets::{Held, read_link, read_list};
 use entries::Entry;
 use refusals::Refusal;
 use row::has_room;
@@ -29,12 +29,9 @@ pub struct Read {
     pub consumed: usize,
 }
 
-// Whether a line is a block attribute list; here its text begins with the opening bracket.
-pub fn is_block_attr_list<'a>(
-    kinds: &'a [u8],
-    text: &'a [u8],
-    pairs: &'a [u32],
-) -> Result<bool, Refusal>
+// Whether a line is a block attribute list; here its text begins with the opening bracket. Three slices and no `Line`, here and below: whether they are one is
+// what is checked, and to ask for a `Line` would ask more of callers.
+pub fn is_block_attr_list(kinds: &[u8], text: &[u8], pairs: &[u32]) -> Result<bool, Refusal>
     ensures { told_line result ≡ block_line (line kinds.entry text.entry pairs.entry) }
 {
     let taken = Line::new(kinds, text, pairs)?;
@@ -43,13 +40,14 @@ pub fn is_block_attr_list<'a>(
 
 // Reads a line by an entry: the attribute list of a block or a block macro, which is the rest of its line; of an inline macro, which the next bracket
 // closes that is not escaped; or what a link macro's brackets hold, an attribute list, read as an inline macro's, or text. Nothing is written before every
-// refusal has been ruled out.
-pub fn parse_attr_list<'a, 'b>(
+// refusal has been ruled out. Inlined, so that a caller's entry, which is mostly known beforehand, is not asked for.
+#[inline(always)]
+pub fn parse_attr_list(
     entry: Entry,
-    kinds: &'a [u8],
-    text: &'a [u8],
-    pairs: &'a [u32],
-    rows: &'b mut [u32],
+    kinds: &[u8],
+    text: &[u8],
+    pairs: &[u32],
+    rows: &mut [u32],
 ) -> Result<Read, Refusal>
     ensures { Outcome most_tokens entry (line kinds.entry text.entry pairs.entry) rows.old (told result) rows.new }
 {
@@ -63,8 +61,10 @@ pub fn parse_attr_list<'a, 'b>(
             consumed: 1,
         });
     }
+    let held = Held { line };
+    // The entry chooses, so a `match`; a closure that is made for it and called once would say no more.
     match entry {
-        Entry::Link => read_link(line, rows),
-        _ => read_list(line, entry, rows),
+        Entry::Link => read_link(held, rows),
+        _ => read_list(held, entry, rows),
     }
 }

@@ -1,5 +1,6 @@
 -- Laws of the reading of one attribute: the tail of a cut goes back through the whole reading, without a bound; a cut finds its symbol; and how many
 -- rows there are at most.
+use Rattle.std.proofs.Math.Nat.{suc-ne-zero}
 use Rattle.std.specs.Prelude.{ℕ, zero, suc, ◌+◌, ◌≤◌, ◌<◌, Bool, cond, ◌&&◌, ◌≡◌}
 use Rattle.std.proofs.Common.{arith, sym, subst, ◌∙◌}
 use Rattle.std.proofs.Math.Bool.{true, false, not}
@@ -103,7 +104,7 @@ plain-token block first noted n t ts k e h f =
     same e = cc
 
     never : {A : Type 0} → Named ≡ Positional n → A
-    never e = absurd (let z : ◌≡◌ {A = ℕ} 0 1 = cc in omega arith)
+    never e = absurd (suc-ne-zero 0 cc)
 
     go : (q w x z g o : Bool) → decided (cond q (Break (Positional noted)) (cond w (cond x (Continue noted) (Break (Positional noted))) (cond z (cond g (Break (Positional noted)) (cond o (Break Named) (Continue noted))) (Continue noted)))) k ≡ Positional n → n ≡ noted
     go true w x z g o f = same f
@@ -124,8 +125,7 @@ no_symbol block first noted n (t ∷ ts) e f =
 pub noted-symbol : (block : Bool) (ts : List Token) → look block true false ts ≡ Positional true → onward is_symbol ts ≡ [] → ⊥
 noted-symbol block ts f e =
     let g : true ≡ false = no_symbol block true false true ts e f in
-    let z : ◌≡◌ {A = ℕ} 0 1 = cc in
-    omega arith
+    suc-ne-zero 0 cc
 
 -- a positional that is cut has the tokens it was made of
 cut-tokens : (block : Bool) (ts us : List Token) → attr_ir block ts ≡ is.positional us true → (us ≡ ts) × (look block true false ts ≡ Positional true)
@@ -133,20 +133,20 @@ unfolding attr_ir ir_as key_value_ir named_ir
 cut-tokens block ts us e = go (look block true false ts) refl e
   where
     flags : (n b q : Bool) → (n && b && not q) ≡ true → (n ≡ true) × (q ≡ false)
-    flags true true true e = absurd (let z : ◌≡◌ {A = ℕ} 0 1 = cc in omega arith)
+    flags true true true e = absurd (suc-ne-zero 0 cc)
     flags true true false e = (refl, refl)
-    flags true false q e = absurd (let z : ◌≡◌ {A = ℕ} 0 1 = cc in omega arith)
-    flags false b q e = absurd (let z : ◌≡◌ {A = ℕ} 0 1 = cc in omega arith)
+    flags true false q e = absurd (suc-ne-zero 0 cc)
+    flags false b q e = absurd (suc-ne-zero 0 cc)
 
     name : (a : Name) (n v : List Token) → named_ir a n v ≡ is.positional us true → (us ≡ ts) × (look block true false ts ≡ Positional true)
-    name asks.Options n v e = absurd (let z : ◌≡◌ {A = ℕ} 0 1 = cc in omega arith)
-    name asks.Role n v e = absurd (let z : ◌≡◌ {A = ℕ} 0 1 = cc in omega arith)
-    name asks.Id n v e = absurd (let z : ◌≡◌ {A = ℕ} 0 1 = cc in omega arith)
-    name asks.Plain n v e = absurd (let z : ◌≡◌ {A = ℕ} 0 1 = cc in omega arith)
-    name asks.Other n v e = absurd (let z : ◌≡◌ {A = ℕ} 0 1 = cc in omega arith)
+    name asks.Options n v e = absurd (suc-ne-zero 0 cc)
+    name asks.Role n v e = absurd (suc-ne-zero 0 cc)
+    name asks.Id n v e = absurd (suc-ne-zero 0 cc)
+    name asks.Plain n v e = absurd (suc-ne-zero 0 cc)
+    name asks.Other n v e = absurd (suc-ne-zero 0 cc)
 
     go : (r : Reading) → look block true false ts ≡ r → ir_as block ts r ≡ is.positional us true → (us ≡ ts) × (look block true false ts ≡ Positional true)
-    go Shorthand f e = absurd (let z : ◌≡◌ {A = ℕ} 0 1 = cc in omega arith)
+    go Shorthand f e = absurd (suc-ne-zero 0 cc)
     go (Positional n) f e =
         let same : unquote ts ≡ us = cc in
         let cut : (n && block && not (quoted ts)) ≡ true = cc in

@@ -1,4 +1,5 @@
 -- The reading of an attribute by its runs, and the cut.
+use Rattle.std.proofs.Math.Nat.{suc-ne-zero}
 use Prim.Native.Nat.{ℕ, zero, suc, ◌+◌, ◌≤◌, ◌<◌}
 use native.Mathlib.Omega.{arith}
 use mathlib.Core.Bool.{Bool, true, false, cond, not, ◌&&◌, ◌||◌, and-false}
@@ -73,7 +74,7 @@ symbol-stop : (t : Token) → (is_symbol t && of_one t) ≡ true → is_stop t �
 symbol-stop t e = go (is_dots t) (is_hash t) (is_percent t) (of_one t) e
   where
     no : {A : Type 0} → false ≡ true → A
-    no e = absurd (let z : ◌≡◌ {A = ℕ} 0 1 = cc in omega arith)
+    no e = absurd (suc-ne-zero 0 cc)
 
     go : (d h p o : Bool) → ((d || h || p) && o) ≡ true → (h || p || (d && o)) ≡ true
     go d true p o e = refl
@@ -87,8 +88,7 @@ clash block t ts e f =
     let s : sight_short (sight block true false t ts) ≡ false = rw f (not_short true false true false (is_quote t) (is_whitespace t) (next_equals ts) (is_equals t) (of_one t)) in
     let g : is_short (look block true false (t ∷ ts)) ≡ false = decided-not (sight block true false t ts) (λ n. look block false n ts) s (λ n. look-later block n ts) in
     let h : is_short Shorthand ≡ false = ap is_short e ∙ g in
-    let z : ◌≡◌ {A = ℕ} 0 1 = cc in
-    omega arith
+    suc-ne-zero 0 cc
 
 look-first : (block : Bool) (t : Token) (ts : List Token) → Shorthand ≡ look block true false (t ∷ ts) → is_stop t ≡ true
 unfolding look sight is_short
@@ -104,17 +104,17 @@ unfolding attr_ir ir_as key_value_ir named_ir
 shorthand-first block t ts us e = go (look block true false (t ∷ ts)) refl e
   where
     name : (a : Name) (n v : List Token) → named_ir a n v ≡ is.shorthand us → (us ≡ t ∷ ts) × (is_stop t ≡ true)
-    name asks.Options n v e = absurd (let z : ◌≡◌ {A = ℕ} 0 1 = cc in omega arith)
-    name asks.Role n v e = absurd (let z : ◌≡◌ {A = ℕ} 0 1 = cc in omega arith)
-    name asks.Id n v e = absurd (let z : ◌≡◌ {A = ℕ} 0 1 = cc in omega arith)
-    name asks.Plain n v e = absurd (let z : ◌≡◌ {A = ℕ} 0 1 = cc in omega arith)
-    name asks.Other n v e = absurd (let z : ◌≡◌ {A = ℕ} 0 1 = cc in omega arith)
+    name asks.Options n v e = absurd (suc-ne-zero 0 cc)
+    name asks.Role n v e = absurd (suc-ne-zero 0 cc)
+    name asks.Id n v e = absurd (suc-ne-zero 0 cc)
+    name asks.Plain n v e = absurd (suc-ne-zero 0 cc)
+    name asks.Other n v e = absurd (suc-ne-zero 0 cc)
 
     go : (r : Reading) → look block true false (t ∷ ts) ≡ r → ir_as block (t ∷ ts) r ≡ is.shorthand us → (us ≡ t ∷ ts) × (is_stop t ≡ true)
     go Shorthand f e =
         let same : us ≡ t ∷ ts = cc in
         (same, look-first block t ts (sym f))
-    go (Positional n) f e = absurd (let z : ◌≡◌ {A = ℕ} 0 1 = cc in omega arith)
+    go (Positional n) f e = absurd (suc-ne-zero 0 cc)
     go Named f e = name (name_of (Rattle.runs.specs.Names.bytes (name_tokens (t ∷ ts)))) (name_tokens (t ∷ ts)) (value_tokens (t ∷ ts)) e
 
 -- ---- an attribute trimmed to the run s

@@ -10,10 +10,5 @@ use token::TokenPlace;
 pub(crate) fn find_symbol(places: Places<'_>) -> TokenPlace
     ensures { FoundAt is_symbol places.entry.kinds.now places.entry.from.0 places.entry.to.0 result.0 }
 {
-    for i in places.from.0..places.to.0 {
-        if symbol_kind(places.kinds[i]) {
-            return TokenPlace(i);
-        }
-    }
-    places.to
+    places.find(|p| symbol_kind(places.kinds[p.0]))
 }

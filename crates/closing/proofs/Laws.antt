@@ -1,6 +1,7 @@
 -- Laws of the closing bracket: for the loops that look for it, and that what they find is what the words say.
-use Rattle.std.specs.Prelude.{Option, None, Some, ℕ, zero, suc, ◌+◌, ◌-◌, ◌≤◌, ◌<◌, cond, not, ◌&&◌, ◌≡◌, refl, List, [], ◌∷◌, eqb, length, get_or, drop}
-use Rattle.std.proofs.Common.{arith, sym, ap, subst, ◌∙◌, drop_of_length-le, drop-cons, eq-eqb, ne_eqb}
+use Rattle.std.specs.Prelude.{Option, None, Some, ℕ, zero, suc, ◌+◌, ◌-◌, ◌≤◌, ◌<◌, cond, not, ◌&&◌, ◌≡◌, refl, List, [], ◌∷◌, eqb, length, get_or, take, drop}
+use Rattle.std.proofs.Common.{rules, arith, sym, ap, subst, ◌∙◌, drop_of_length-le, drop-cons, eq-eqb, ne_eqb}
+use Rattle.std.proofs.lemmas.List.{get_or-take, get_or-drop, length-take-le, length-drop}
 use Rattle.std.proofs.Math.Numerals.{add-one}
 use Rattle.std.proofs.Math.Decide.{dec_lt, ℕ_discrete}
 use Rattle.token.specs.Kind.{backslash, close_bracket}
@@ -45,6 +46,24 @@ module _ (kinds : List ℕ) (i : ℕ) where
   pub next-after : (get_or kinds i 0 ≡ close_bracket → ⊥) → on_from kinds (i + 1) ≡ next_bracket kinds i
   unfolding next_bracket
   next-after e = rw (ne_eqb (get_or kinds i 0) close_bracket e, add-one i, back i)
+
+-- what is left of the tokens from a place on
+pub rest-at : (kinds : List ℕ) (from k : ℕ) → k < length kinds - from → get_or (take (length kinds - from) (drop from kinds)) k 0 ≡ get_or kinds (from + k) 0
+rest-at kinds from k lt = get_or-take (length kinds - from) (drop from kinds) k 0 lt ∙ get_or-drop from kinds k 0
+
+pub rest-long : (kinds : List ℕ) (from : ℕ) → length (take (length kinds - from) (drop from kinds)) ≡ length kinds - from
+rest-long kinds from = length-take-le (length kinds - from) (drop from kinds) (omega (arith, length-drop from kinds))
+
+-- where none of n tokens closes behind the one at `from`, the look goes on behind them
+module _ (kinds : List ℕ) (from : ℕ) where
+  pub next_past : (n : ℕ) → from + 1 + n ≤ length kinds → ((k : ℕ) → k < n → get_or kinds (from + 1 + k) 0 ≡ close_bracket → get_or kinds (from + k) 0 ≡ backslash) → on_from kinds (from + 1 + n) ≡ on_from kinds (from + 1)
+  next_past zero le w =
+      let e : from + 1 + 0 ≡ from + 1 = omega arith in
+      ap (on_from kinds) e
+  next_past (suc n) le w =
+      let e : from + 1 + suc n ≡ from + 1 + n + 1 = omega arith in
+      let f : from + 1 + n - 1 ≡ from + n = omega arith in
+      ap (on_from kinds) e ∙ next-on kinds (from + 1 + n) (omega arith) (λ g. rw f (w n (omega arith) g)) ∙ next_past n (omega arith) (λ k lt. w k (omega arith))
 
 -- ---- what is found is in words what it should be
 
@@ -139,6 +158,6 @@ next-is kinds from p w = go (next_bracket kinds from) (next-found kinds from (om
 
 pub same_case : (c d : Option TokenPlace) → numbers_of c ≡ numbers_of d → c ≡ d
 same_case (Some p) (Some q) e = ap at (ap (λ n. n.place) e)
-same_case (Some p) None e = let z : ◌≡◌ {A = ℕ} 0 8 = ap (λ n. n.refusal) e in absurd (omega arith)
-same_case None (Some q) e = let z : ◌≡◌ {A = ℕ} 8 0 = ap (λ n. n.refusal) e in absurd (omega arith)
+same_case (Some p) None e = absurd (search rules)
+same_case None (Some q) e = absurd (search rules)
 same_case None None e = refl

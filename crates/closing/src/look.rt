@@ -2,49 +2,43 @@
 ghost use Rattle.std.specs.Prelude.{◌≡◌};
 ghost use Rattle.closing.specs.Link.{turn};
 
-use super::{BACKSLASH, CLOSE_BRACKET, DOUBLE_QUOTE, EQUAL_SIGNS, OPEN_BRACKET};
+use super::LinkMacro;
+use std::ops::ControlFlow;
+use token::TokenPlace;
+use token::kind::TokenKind;
 
 // What has been seen: whether the look is in double quotes, whether it is in a nested list, and whether the token before was a Backslash.
-#[derive(Clone, Copy)]
+#[derive(Clone, Copy, Debug, PartialEq, Eq)]
 pub struct Seen {
     pub quoted: bool,
     pub nested: bool,
     pub escaped: bool,
 }
 
-// What a token decides: that there is a list, that the text is closed before it, or nothing yet. Three outcomes, of which none is an error or a None.
-#[derive(Clone, Copy)]
-pub enum Turn {
-    Equals,
-    Closed,
-    On(Seen),
-}
-
-// What a token of kind k decides; `one` says that its length is 1. The kind is matched as its byte: read as a TokenKind first, a link's look took 1.4 to
-// 2 times as long.
+// What a token of kind k at a place decides: that there is a list, that the text is closed before it, or nothing yet. `one` says that its length is 1.
 #[tactic(auto, unfolding(crate::specs::Link::turn))]
-pub(crate) fn turn_at(seen: Seen, k: u8, one: bool) -> Turn
-    ensures turn { result ≡ turn seen k one }
+pub(crate) fn turn_at(seen: Seen, at: TokenPlace, k: u8, one: bool) -> ControlFlow<LinkMacro, Seen>
+    ensures turn { result ≡ turn seen at.0 k one }
 {
     let next = Seen {
-        escaped: k == BACKSLASH,
+        escaped: k == TokenKind::Backslash as u8,
         ..seen
     };
-    match k {
-        CLOSE_BRACKET if seen.nested => Turn::On(Seen {
+    match TokenKind::try_from(k) {
+        Ok(TokenKind::CloseBracket) if seen.nested => ControlFlow::Continue(Seen {
             nested: false,
             ..next
         }),
-        CLOSE_BRACKET if !seen.escaped => Turn::Closed,
-        OPEN_BRACKET if !seen.escaped => Turn::On(Seen {
+        Ok(TokenKind::CloseBracket) if !seen.escaped => ControlFlow::Break(LinkMacro::AsText(at)),
+        Ok(TokenKind::OpenBracket) if !seen.escaped => ControlFlow::Continue(Seen {
             nested: true,
             ..next
         }),
-        DOUBLE_QUOTE if !seen.escaped => Turn::On(Seen {
+        Ok(TokenKind::DoubleQuote) if !seen.escaped => ControlFlow::Continue(Seen {
             quoted: !seen.quoted,
             ..next
         }),
-        EQUAL_SIGNS if one && !seen.quoted => Turn::Equals,
-        _ => Turn::On(next),
+        Ok(TokenKind::EqualSigns) if one && !seen.quoted => ControlFlow::Break(LinkMacro::AsList),
+        _ => ControlFlow::Continue(next),
     }
 }

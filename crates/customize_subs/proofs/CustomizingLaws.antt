@@ -17,9 +17,7 @@ use Rattle.std.proofs.Math.Numerals.{add-one}
 use Rattle.substitutions.specs.declared.Subs.{Subs}
 use Rattle.substitutions.specs.Kinds.{number_of, flagged}
 use Rattle.substitutions.specs.Moves.{refusal_of, insert_of, remove_of}
-use denote.Bor.{Bor}
-use Rattle.std.specs.Option.{option_copied}
-use Rattle.std.specs.Prelude.{Option, Some, None}
+use Rattle.std.specs.Prelude.{Option}
 use Rattle.subs_names.specs.declared.StepOrGroup.{StepOrGroup}
 use Rattle.substitutions.specs.declared.Move.{Move}
 use Rattle.substitutions.specs.declared.Move.TheVariants.{Insert, Prepend, Remove}
@@ -27,7 +25,7 @@ use Rattle.subs_names.specs.Names.{lookup_of}
 use Rattle.customize_subs.specs.Text.{split, first_of, last_of}
 use Rattle.customize_subs.specs.Customizing.{part_of, move_of, entered, strategy_of, name_of, entered_name, stepped, through, start_of, meta_of, meta_refusal}
 use Rattle.customize_subs.proofs.TextLaws.{between-length, between_cons, parts-cons, parts_none}
-use Rattle.customize_subs.specs.Places.{to_comma, between, parts_from, parts_behind, front_of, PartAt, named, named_at, NameAt}
+use Rattle.customize_subs.specs.Places.{to_comma, between, parts_from, front_of, PartAt, named, named_at, NameAt}
 use Rattle.customize_subs.specs.Steps.{is_no_op}
 
 -- A set that is_no_op is what the move gives.
@@ -140,16 +138,15 @@ pub turns-over : (m : Mode) (s : Substitutions) (text : List ℕ) (start : ℕ) 
 unfolding through
 turns-over m s text start h = rw (parts_none start text h)
 
--- The parts one after the other, cut off the text.
-module _ (m : Mode) (s : Substitutions) where
-  pub through-cut : (rest : Option (Bor (List ℕ))) (text : Bor (List ℕ)) (part : List ℕ) (behind : List (List ℕ)) {next : Substitutions} → rest ≡ Some text
-      → split text.now ≡ part ∷ behind → next ≡ stepped m s (part_of m part) → through m next behind ≡ through m s (parts_behind (option_copied rest))
-  unfolding through
-  through-cut rest text part behind e q n = rw (e, q, n)
+-- The parts one after the other.
+pub through-next : (m : Mode) (s : Substitutions) (parts : List (List ℕ)) (part : List ℕ) (behind : List (List ℕ)) {next : Substitutions} → parts ≡ part ∷ behind
+    → next ≡ stepped m s (part_of m part) → through m next behind ≡ through m s parts
+unfolding through
+through-next m s parts part behind e n = rw (e, n)
 
-  pub through-over : (rest : Option (Bor (List ℕ))) → rest ≡ None → s ≡ through m s (parts_behind (option_copied rest))
-  unfolding through
-  through-over rest e = rw e
+pub through-over : (m : Mode) (s : Substitutions) (parts : List (List ℕ)) → parts ≡ [] → s ≡ through m s parts
+unfolding through
+through-over m s parts e = rw e
 
 -- Kinds one after the other.
 module _ (m : Mode) (how : Move) (s r : Substitutions) where

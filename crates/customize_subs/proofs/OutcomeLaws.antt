@@ -1,4 +1,4 @@
--- The outcomes of `from_meta` and `from_meta_sheet` follow from the equation of the answer.
+-- The outcomes of `from_meta` in port mode and in sheet mode follow from the equation of the answer.
 use Rattle.std.specs.Prelude.{ℕ, zero, suc, ◌<◌, ◌≤◌, ◌≡◌, refl, Bool, true, false, List, length, Option, Some, None}
 use Rattle.std.specs.Option.{option_copied}
 use denote.Bor.{Bor}
@@ -18,7 +18,9 @@ use Rattle.substitutions.proofs.AnswersLaws.{refused, turned-away, moved_to}
 use Rattle.customize_subs.proofs.CustomizingLaws.{set-accepted, refusal-long, refusal-short, meta-absent, meta-present}
 use Rattle.customize_subs.proofs.MetaLaws.{meta-held, meta-sound, sheet-sound}
 use Rattle.customize_subs.proofs.SheetLaws.{sheet-set}
-use Rattle.customize_subs.specs.Outcome.{PortOutcome, SheetOutcome, MetaOutcome, Makes}
+use Rattle.customize_subs.specs.Outcome.{PortOutcome, SheetOutcome, MetaOutcome, Makes, is_too_long}
+use Rattle.std.proofs.lemmas.Bool.{false≢true}
+use borrow.Author.Tests.{ltb-true, ltb-false}
 
 -- What is answered where nothing is refused.
 answered : (n : ℕ) (s moved : Substitutions) → (answer n s moved).refusal ≡ 0 → (n ≡ 0) × ((answer n s moved).set ≡ moved)
@@ -91,3 +93,16 @@ module _ (m : Mode) (s : Substitutions) (given : Option (Bor (List ℕ))) where
           present (record { refusal = 0; set = r })
           (moved_to (meta_refusal m s true text.now) s r (meta_of m s true text.now) (sym (refusal-short m s text.now true h) ∙ sym z)
           (meta-present m s text.now true b r refl e q))
+
+-- By whether there is a text that is too long.
+pub long : (m : Mode) (s : Substitutions) (given : Option (Bor (List ℕ))) → is_too_long (option_copied given) ≡ true → Makes m s (option_copied given) (refused_with subs_text_too_long s)
+long m s None h = absurd (false≢true h)
+long m s (Some text) h = too-long m s (Some text) text refl (ltb-true _ _ h)
+
+pub refused-short : (m : Mode) (s : Substitutions) (given : Option (Bor (List ℕ))) → is_too_long (option_copied given) ≡ false → (e : Refusal) → refused_by e ≡ refusal_of m s
+    → Makes m s (option_copied given) (refused_with (refused_by e) s)
+refused-short m s None h e z = absent-refused m s None refl e z
+refused-short m s (Some text) h e z = present-refused m s (Some text) text refl (ltb-false _ _ h) e z
+
+pub short : (given : Option (Bor (List ℕ))) (text : Bor (List ℕ)) → given ≡ Some text → is_too_long (option_copied given) ≡ false → length text.now ≤ 65535
+short given text e h = ltb-false _ _ (rw e at h)

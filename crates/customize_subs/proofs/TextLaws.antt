@@ -1,14 +1,23 @@
 -- Parts of the text by their places, and laws for each way through the loops that find them.
 use Prim.Native.Nat.{ℕ, zero, suc, ◌+◌, ◌-◌, ◌≤◌, ◌<◌}
-use Rattle.std.specs.Prelude.{◌≡◌, refl, Bool, true, false, cond, ◌||◌, List, [], ◌∷◌, ◌++◌, eqb, ltb, leb, drop, position, not, Option, Some, None}
+use Rattle.std.specs.Prelude.{◌≡◌, refl, Bool, true, false, cond, ◌||◌, List, [], ◌∷◌, ◌++◌, eqb, ltb, leb, drop, Some}
 use Rattle.std.proofs.Common.{sym, ◌∙◌, drop_of_length-le, drop-drop, take-suc, get_or-drop, length-take-le, take_all}
 use Rattle.std.proofs.Math.Path.{ap}
 use Rattle.std.proofs.Math.Bool.{and-false, or_assoc}
 use Rattle.std.proofs.lemmas.Bool.{false≢true}
 use native.Mathlib.Omega.{arith}
 use Rattle.std.proofs.Math.Numerals.{add-one}
-use borrow.Author.Tests.{ne_eqb, le-leb, lt-leb, lt-ltb, leb-true, ltb-true, ltb-false, le-ltb}
-use Rattle.std.specs.List.{position_or_len}
+use borrow.Author.Tests.{ne_eqb, le-leb, lt-leb, lt-ltb, leb-true}
+use Rattle.std.specs.List.{slice_split, onto_first, All, IsFirstMatchOrLen}
+use Rattle.std.specs.Bool.{MatchBool}
+use Rattle.std.specs.Fn.{ComputesKey}
+use Rattle.std.specs.Slice.Iter.{split_steps, split_rest, split_done, split_callee}
+use Rattle.std.specs.declared.slice.Split.{Split}
+use Rattle.std.proofs.lemmas.List.Splits.{slice_split_none, slice_split_at}
+use Rattle.std.proofs.lemmas.Grind.{common_steps}
+use denote.Ref.{Bor}
+use denote.Param.Members.{Mut}
+use mathlib.Core.Path.{subst}
 use Rattle.std.specs.Int.Bits.{bit_or, or_zero_l, or_zero_r, or_self}
 use Rattle.std.proofs.Math.Dec.{leb-suc-suc}
 use Rattle.std.proofs.Math.ListN.{length, take, get_or, length-drop}
@@ -52,6 +61,12 @@ module _ (text : List ℕ) (i : ℕ) (lt : i < length text) where
       let t = is_modifier (get_or text i 0) in
       let rest = modified (drop (i + 1) text) in
       ap (λ (x : Bool). x || rest) (found-or f t le).1 ∙ or_assoc (eqb f 1) t rest ∙ ap (λ (x : Bool). eqb f 1 || x) (sym modified-next) ∙ h
+
+  -- f says whether one of the bytes before place i is a + or -
+  pub modified-so-far : (f m : Bool) → (f || modified (drop i text)) ≡ m
+      → ((f || is_modifier (get_or text i 0)) || modified (drop (i + 1) text)) ≡ m
+  modified-so-far f m h =
+      or_assoc f (is_modifier (get_or text i 0)) (modified (drop (i + 1) text)) ∙ ap (λ (x : Bool). f || x) (sym modified-next) ∙ h
 
 pub modified-begins : (text : List ℕ) → is_modifier (get_or text 0 0) ≡ true → modified text ≡ true
 unfolding modified
@@ -191,49 +206,41 @@ pub parts_all : (text : List ℕ) → parts_from 0 text ≡ split text
 unfolding parts_from
 parts_all text = rw (le-leb 0 (length text) (omega arith))
 
-abbrev or_0 : Option ℕ → ℕ
-or_0 None = 0
-or_0 (Some n) = n
-
-abbrev is_some : Option ℕ → Bool
-is_some None = false
-is_some (Some n) = true
-
--- The first comma, as the search for it tells, and the text cut there.
-comma-position : (xs : List ℕ) → position_or_len (λ b. eqb b 44) xs ≡ to_comma xs
-unfolding to_comma
-comma-position [] = refl
-comma-position (b ∷ bs) = rw (comma-position bs) (by (eqb b 44) (to_comma bs))
+-- The parts are those that std's `split` gives.
+pub split-is : (xs : List ℕ) → slice_split (λ b. eqb b 44) xs ≡ split xs
+unfolding split on_first
+split-is [] = refl
+split-is (b ∷ bs) = rw (split-is bs) (ap (λ (l : List (List ℕ)). cond (eqb b 44) ([] ∷ split bs) l) (onto-is b (split bs)))
   where
-    by : (t : Bool) (n : ℕ) → cond (not t) (1 + n) 0 ≡ cond t 0 (suc n)
-    by true n = refl
-    by false n = omega arith
+    onto-is : (b : ℕ) (parts : List (List ℕ)) → onto_first b parts ≡ on_first b parts
+    onto-is b [] = refl
+    onto-is b (p ∷ ps) = refl
 
-module _ (xs : List ℕ) where
-  cut-at : (n at : ℕ) → n ≡ at → at < length xs → rest n xs ≡ split (take (length xs - (at + 1)) (drop (at + 1) xs))
-  unfolding rest
-  cut-at n at e h = rw (e, lt-ltb at (length xs) h, take_all (length xs - (at + 1)) (drop (at + 1) xs) (omega (arith, length-drop (at + 1) xs)), add-one at)
+-- The parts that std's `split` still has to give, and what one call of its `next` says of them.
+abbrev pub parts_left : {F : Type 0} → Split ℕ F → List (List ℕ)
+parts_left s = cond (split_done s) [] (split (split_rest s))
 
-  pub cut-some : (at : ℕ) → position (λ b. eqb b 44) xs ≡ Some at → split xs ≡ take at xs ∷ split (take (length xs - (at + 1)) (drop (at + 1) xs))
-  cut-some at = by (ltb (position_or_len (λ b. eqb b 44) xs) (length xs)) refl
-    where
-      by : (t : Bool) → ltb (position_or_len (λ b. eqb b 44) xs) (length xs) ≡ t → cond t (Some (position_or_len (λ b. eqb b 44) xs)) None ≡ Some at
-          → split xs ≡ take at xs ∷ split (take (length xs - (at + 1)) (drop (at + 1) xs))
-      by true h e =
-          let n : to_comma xs ≡ at = sym (comma-position xs) ∙ ap (or_0) e in
-          let lt : at < length xs = omega (arith, n, comma-position xs, ltb-true _ _ h) in
-          split-first xs ∙ ap (λ (i : ℕ). take i xs ∷ rest (to_comma xs) xs) n ∙ ap (λ (l : List (List ℕ)). take at xs ∷ l) (cut-at (to_comma xs) at n lt)
-      by false h e = absurd (false≢true (ap is_some e))
+first-part : (p : ℕ → Bool) (xs x rest : List ℕ) (done : Bool) → MatchBool done (xs ≡ x) ((y : ℕ) × (xs ≡ x ++ (y ∷ rest))) → IsFirstMatchOrLen p xs (length x)
+    → slice_split p xs ≡ x ∷ cond done [] (slice_split p rest)
+first-part p xs x rest true e h = ap (slice_split p) e ∙ slice_split_none p x (λ k d l. subst (λ (ys : List ℕ). p (get_or ys k d) ≡ false) e (h.0 k d (omega arith) l))
+first-part p xs x rest false e h =
+    let front : All (λ z. p z ≡ false) x = λ k d l. let a = h.0 k d (omega arith) l in let b = e.1 in grind (arith, common_steps) in
+    let hit : p e.0 ≡ true = let b = e.1 in let a = h.1 (grind (arith, common_steps)) e.0 in grind (arith, common_steps) in
+    ap (slice_split p) e.1 ∙ slice_split_at p x e.0 rest front hit
 
-  pub cut-none : position (λ b. eqb b 44) xs ≡ None → split xs ≡ xs ∷ []
-  unfolding rest
-  cut-none = by (ltb (position_or_len (λ b. eqb b 44) xs) (length xs)) refl
-    where
-      by : (t : Bool) → ltb (position_or_len (λ b. eqb b 44) xs) (length xs) ≡ t → cond t (Some (position_or_len (λ b. eqb b 44) xs)) None ≡ None → split xs ≡ xs ∷ []
-      by true h e = absurd (false≢true (sym (ap is_some e)))
-      by false h e =
-          let n : length xs ≤ to_comma xs = omega (arith, comma-position xs, ltb-false _ _ h) in
-          split-first xs ∙ rw (le-ltb (to_comma xs) (length xs) n, take_all (to_comma xs) xs n)
+module _ {F : Type 0} (g : Mut F (Bor ℕ × Unit {0}) Bool) (s t : Split ℕ F) where
+  pub part-next : (x : Bor (List ℕ)) → split_steps g s (Some x) t → ComputesKey g (λ b. eqb b 44) (split_callee s) → parts_left s ≡ x.now ∷ parts_left t
+  part-next x k h =
+      ap (λ (b : Bool). cond b [] (split (split_rest s))) k.0
+      ∙ sym (split-is (split_rest s))
+      ∙ first-part (λ b. eqb b 44) (split_rest s) x.now (split_rest t) (split_done t) k.1 (k.2 (λ b. eqb b 44) h).1
+      ∙ ap (λ (l : List (List ℕ)). x.now ∷ cond (split_done t) [] l) (split-is (split_rest t))
+
+pub parts-start : {F : Type 0} (s : Split ℕ F) (text : List ℕ) → split_rest s ≡ text → split_done s ≡ false → parts_left s ≡ split text
+parts-start s text e d = ap (λ (b : Bool). cond b [] (split (split_rest s))) d ∙ ap split e
+
+pub parts-over : {F : Type 0} (s : Split ℕ F) → split_done s ≡ true → parts_left s ≡ []
+parts-over s d = ap (λ (b : Bool). cond b [] (split (split_rest s))) d
 
 -- Spaces taken off one by one, at the front and at the end of a list.
 pub front_more : (l : List ℕ) → 1 ≤ length l → get_or l 0 0 ≡ 32 → front (take (length l - 1) (drop 1 l)) ≡ front l

@@ -6,7 +6,7 @@ use Rattle.substitutions.specs.declared.Substitutions.{Substitutions}
 use Rattle.substitutions.specs.declared.SetAnswer.{SetAnswer}
 use Rattle.substitutions.specs.declared.Mode.{Mode}
 use Rattle.substitutions.specs.declared.Mode.TheVariants.{Port, Sheet}
-use Rattle.substitutions.specs.Moves.{empty_set, room, insert_of, remove_of, prepend_of, refusal_of, answer}
+use Rattle.substitutions.specs.Moves.{empty_set, moved, refusal_of, answer}
 use Rattle.subs_names.specs.declared.StepOrGroup.{StepOrGroup}
 use Rattle.subs_names.specs.declared.StepOrGroup.TheVariants.{None, Normal, Verbatim, SpecialChars, Callouts, Quotes, Attributes, Replacements, Macros, PostReplacements}
 use Rattle.std.specs.Prelude as looked_up
@@ -25,11 +25,9 @@ abbrev pub verbatim_of : Mode → List ℕ
 verbatim_of Port = 1 ∷ 4 ∷ []
 verbatim_of Sheet = 1 ∷ 7 ∷ []
 
--- and insert may fill the first six places, in sheet mode all seven (`room`).
+-- and insert may fill the first six places, in sheet mode all seven (`moved`, `room`).
 abbrev pub move_of : Mode → Move → ℕ → Substitutions → Substitutions
-move_of m Insert k s = insert_of (room m) k s
-move_of m Prepend k s = prepend_of k s
-move_of m Remove k s = remove_of k s
+move_of m how k s = moved m how k s
 
 -- The kinds of a name: none has no kind, normal kinds 1 to 6.
 abbrev pub kinds_of : Mode → StepOrGroup → List ℕ

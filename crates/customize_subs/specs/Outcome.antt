@@ -1,5 +1,5 @@
--- What `from_meta` and `from_meta_sheet` promise of their answer r to a set, a subs text and whether there is one.
-use Rattle.std.specs.Prelude.{ℕ, ◌≡◌, Bool, true, false, List, Option, Some, None}
+-- What `from_meta` promises of its answer r to a set, a subs text and whether there is one, in port mode and in sheet mode.
+use Rattle.std.specs.Prelude.{ℕ, ◌≡◌, Bool, true, false, List, length, ltb, Option, Some, None}
 use Rattle.substitutions.specs.declared.Substitutions.{Substitutions}
 use Rattle.substitutions.specs.declared.SetAnswer.{SetAnswer}
 use Rattle.substitutions.specs.declared.Mode.{Mode}
@@ -30,3 +30,8 @@ MetaOutcome Sheet = SheetOutcome
 abbrev pub Makes : Mode → Substitutions → Option (List ℕ) → SetAnswer → Type 0
 Makes m s None r = (text : List ℕ) → MetaOutcome m s false text r
 Makes m s (Some text) r = MetaOutcome m s true text r
+
+-- Whether there is a text over 65,535 bytes.
+abbrev pub is_too_long : Option (List ℕ) → Bool
+is_too_long None = false
+is_too_long (Some text) = ltb 65535 (length text)

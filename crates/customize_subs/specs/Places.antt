@@ -1,5 +1,5 @@
 -- Parts of a subs text by their places, as laws speak of them; the code reads them as slices. `TextLaws` and `CustomizingLaws` tie them to `Text` and `Customizing`.
-use Rattle.std.specs.Prelude.{ℕ, suc, ◌+◌, ◌-◌, ◌≡◌, Bool, cond, ◌||◌, List, [], ◌∷◌, eqb, leb, length, take, drop, ◌<◌, Option, Some, None}
+use Rattle.std.specs.Prelude.{ℕ, suc, ◌+◌, ◌-◌, ◌≡◌, Bool, cond, ◌||◌, List, [], ◌∷◌, eqb, leb, length, take, drop}
 use Rattle.substitutions.specs.declared.Mode.{Mode}
 use Rattle.substitutions.specs.declared.Mode.TheVariants.{Port, Sheet}
 use Rattle.substitutions.specs.declared.Move.{Move}
@@ -61,13 +61,3 @@ pub record NameAt (a e : ℕ) (text : List ℕ) (r : Named) : Type 0 where
   pub places : r ≡ named_at a e (between a e text)
   pub strategy : r.strategy ≡ strategy_of (between a e text)
   pub name : between r.start r.end text ≡ name_of (between a e text)
-
--- The parts of the text behind a comma: none where there is no comma.
-abbrev pub parts_behind : Option (List ℕ) → List (List ℕ)
-parts_behind None = []
-parts_behind (Some text) = split text
-
--- That text is shorter.
-abbrev pub Shorter : Option (List ℕ) → List ℕ → Type 0
-Shorter None text = Unit {0}
-Shorter (Some behind) text = length behind < length text

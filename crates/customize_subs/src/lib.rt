@@ -10,10 +10,10 @@ ghost use Rattle.substitutions.specs.Held.{held};
 ghost use Rattle.substitutions.specs.Moves.{answer_of};
 ghost use Rattle.customize_subs.specs.Text.{split};
 ghost use Rattle.customize_subs.specs.Customizing.{part_of, start_of, stepped, through};
-ghost use Rattle.customize_subs.specs.Outcome.{Makes};
+ghost use Rattle.customize_subs.specs.Outcome.{Makes, is_too_long};
 
-use crate::parts::{begins_modified, cut, has_modifier, part_in, strategy_and_name};
-use crate::steps::enter;
+use crate::parts::{begins_modified, has_modifier, part_in, strategy_and_name};
+use crate::steps::Asked;
 use refusals::Refusal;
 use subs_names::look_up;
 use substitutions::{Mode, Substitutions};
@@ -36,10 +36,7 @@ fn customize(mode: Mode, set: Substitutions, text: &[u8]) -> Substitutions
     ensures { result ≡ through mode set (split text.now) }
 {
     let mut next = set;
-    let mut rest = Some(text);
-    while let Some(from) = rest {
-        let (part, behind) = cut(from);
-        rest = behind;
+    for part in text.split(|b| *b == b',') {
         let part = part_in(mode, part);
         // under 4 bytes is skipped
         if part.len() < 4 {
@@ -50,12 +47,19 @@ fn customize(mode: Mode, set: Substitutions, text: &[u8]) -> Substitutions
         let Some(step) = look_up(name) else {
             continue;
         };
-        next = enter(mode, strategy, step, next);
+        next = Asked { mode, strategy }.enter(step, next);
     }
     next
 }
 
-// The text is `None` where the block has no subs attribute. 9 for a subs text over 65,535 bytes, then the refusals of the set.
+// Whether there is a text over 65,535 bytes.
+fn is_too_long(text: Option<&[u8]>) -> bool
+    ensures { result ≡ is_too_long (option_copied text.entry) }
+{
+    text.is_some_and(|text| text.len() > 65535)
+}
+
+// The text is `None` where the block has no subs attribute. `SubsTextTooLong` for a text over 65,535 bytes, then the refusals of the set.
 pub fn from_meta(
     mode: Mode,
     set: Substitutions,
@@ -63,13 +67,12 @@ pub fn from_meta(
 ) -> Result<Substitutions, Refusal>
     ensures { Makes mode set (option_copied text.entry) (answer_of set result) }
 {
-    let Some(text) = text else {
-        set.check(mode)?;
-        return Ok(set);
-    };
-    if text.len() > 65535 {
+    if is_too_long(text) {
         return Err(Refusal::SubsTextTooLong);
     }
     set.check(mode)?;
-    Ok(customize(mode, start_of(set, text), text))
+    match text {
+        Some(text) => Ok(customize(mode, start_of(set, text), text)),
+        None => Ok(set),
+    }
 }

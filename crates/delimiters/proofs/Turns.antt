@@ -3,7 +3,7 @@
 use Prim.Native.Nat.{ℕ, zero, suc, ◌+◌, ◌-◌, ◌≤◌, ◌<◌}
 use native.Mathlib.Omega.{arith}
 use native.Mathlib.Numerals.{add-one}
-use mathlib.Core.Path.{◌≡◌, refl, sym, ap, ◌∙◌}
+use mathlib.Core.Path.{◌≡◌, refl, sym, ap, subst, ◌∙◌}
 use mathlib.Core.List.{List, [], ◌∷◌, ◌++◌}
 use mathlib.Core.Logic.{◌⊎◌}
 use lib.ListN.{length, take, set, length-set}
@@ -12,6 +12,7 @@ use borrow.Author.Tests.{eq-eqb, ne_eqb}
 use borrow.Author.Count.{below_more}
 use Rattle.std.specs.Prelude.{Option, None, Some, min}
 use Rattle.std.proofs.Math.Nat.{min-eq_left, min-eq_right}
+use Rattle.std.proofs.lemmas.List.{length-take}
 use Rattle.std.proofs.Math.Decide.{dec_lt}
 use Rattle.token.specs.Kind.{close_bracket, comma, double_quote, single_quote, kind_at}
 use Rattle.delimiters.specs.Count.{counted, Quote, double, single, quote_kind}
@@ -54,13 +55,27 @@ going_start kinds lent =
     zeros double = refl
     zeros single = refl
 
-min-self : (n : ℕ) → min n n ≡ n
-min-self n = min-eq_left (omega arith)
+-- the token loop looks at the first n tokens
+pub within : (n i : ℕ) (kinds : List ℕ) → i < length (take n kinds) → (i < n) × (i < length kinds)
+within n i kinds lt =
+    let e = length-take n kinds in
+    (omega arith, omega arith)
+
+-- how many of n stretches are left once no more than `remain` are to; all, where none has to go
+abbrev pub left_of : (n : ℕ) → (remain : Option ℕ) → ℕ
+left_of n None = n
+left_of n (Some r) = min n r
 
 -- where the arms of the code's match have met
-pub going-moved : {kinds lent : List ℕ} {i : ℕ} {cs cs' : List ℕ} {n n' remain remain' : ℕ} {d d' s s' : Option ℕ} → cs ≡ cs' → n ≡ n' → remain ≡ remain' → d ≡ d' → s ≡ s'
-    → Going kinds lent cs' (min n' remain') d' s' (suc i) → Going kinds lent cs (min n remain) d s (i + 1)
-going-moved {kinds} {lent} {i} e₁ e₂ e₃ e₄ e₅ w = rw (e₁, e₂, e₃, e₄, e₅, add-one i) w
+pub going-moved : {kinds lent : List ℕ} (i : ℕ) {cs cs' : List ℕ} {n n' : ℕ} {remain remain' d d' s s' : Option ℕ} → cs ≡ cs' → n ≡ n' → remain ≡ remain' → d ≡ d' → s ≡ s'
+    → Going kinds lent cs' (left_of n' remain') d' s' (i + 1) → Going kinds lent cs (left_of n remain) d s (i + 1)
+going-moved {kinds} {lent} i e₁ e₂ e₃ e₄ e₅ w = rw (e₁, e₂, e₃, e₄, e₅) w
+
+pub going-all : {kinds lent cs : List ℕ} (n i : ℕ) {remain d s : Option ℕ} → remain ≡ None → Going kinds lent cs (left_of n remain) d s i → Going kinds lent cs n d s i
+going-all {kinds} {lent} {cs} n i {remain} {d} {s} e w = subst (λ (x : Option ℕ). Going kinds lent cs (left_of n x) d s i) e w
+
+pub going-few : {kinds lent cs : List ℕ} (n r i : ℕ) {remain d s : Option ℕ} → remain ≡ Some r → Going kinds lent cs (left_of n remain) d s i → Going kinds lent cs (min n r) d s i
+going-few {kinds} {lent} {cs} n r i {remain} {d} {s} e w = subst (λ (x : Option ℕ). Going kinds lent cs (left_of n x) d s i) e w
 
 -- what is noted once the definition's step has put m for the kind q
 noted-put : (q r : Quote) (m : ℕ) (g : Quote → Option ℕ) (f : Quote → ℕ) → Noted (g q) m → Noted (g (other_quote q)) (f (other_quote q)) → Noted (g r) (put q m f r)
@@ -90,11 +105,11 @@ module _ {kinds lent cs : List ℕ} {n : ℕ} {d s : Option ℕ} {i : ℕ} (v : 
       let e : n + 1 - 1 ≡ suc (n - 1) = omega (arith, v.some) in
       rw e (take-suc-set cs (n - 1) i (omega (arith, v.few, v.long)) ∙ ap (λ (l : List ℕ). l ++ (i ∷ [])) v.places)
 
-  pub going-comma : kind_at kinds i ≡ comma → Going kinds lent (set cs (n - 1) i) (min (n + 1) (n + 1)) d s (suc i)
+  pub going-comma : kind_at kinds i ≡ comma → Going kinds lent (set cs (n - 1) i) (n + 1) d s (i + 1)
   unfolding at_comma
   going-comma e =
       let t = after-comma kinds i e in
-      rw (min-self (n + 1)) (record {
+      rw (add-one i) (record {
         some = omega arith;
         few = omega (arith, v.few);
         places = comma-places ∙ ap (λ (x : State). x.commas) (sym t);
@@ -124,14 +139,13 @@ module _ {kinds lent cs : List ℕ} {n : ℕ} {d s : Option ℕ} {i : ℕ} (v : 
           let e : min n (suc k) ≡ n = min-eq_left (omega arith) in
           rw e (v.places ∙ sym (take_all k (after kinds i).commas (omega (arith, long))))
 
-  quote-by : (q : Quote) (o left : Option ℕ) (m remain : ℕ) (d' s' : Option ℕ) → kind_at kinds i ≡ quote_kind q → Noted o m → (after kinds i).noted q ≡ m → AtQuote o n left remain → notes d' s' q ≡ left → notes d' s' (other_quote q) ≡ notes d s (other_quote q) → Going kinds lent cs (min n remain) d' s' (suc i)
+  quote-by : (q : Quote) (o left : Option ℕ) (m : ℕ) (remain d' s' : Option ℕ) → kind_at kinds i ≡ quote_kind q → Noted o m → (after kinds i).noted q ≡ m → AtQuote o n left remain → notes d' s' q ≡ left → notes d' s' (other_quote q) ≡ notes d s (other_quote q) → Going kinds lent cs (left_of n remain) d' s' (suc i)
   unfolding at_quote note
   quote-by q None left m remain d' s' e w f g h₁ h₂ =
       let t = after-quote kinds i q 0 e (f ∙ w) in
       let l : suc (length (after kinds i).commas) ≡ n = omega (arith, long, v.some) in
-      let x : min n remain ≡ n = min-eq_left (omega (arith, g.1)) in
-      rw x (record {
-        some = omega (arith, v.some);
+      rw g.1 (record {
+        some = v.some;
         few = omega (arith, v.few);
         places = v.places ∙ ap (λ (y : State). y.commas) (sym t);
         noted = λ r. rw t (noted-put q r _ (notes d' s') (after kinds i).noted (rw (h₁, g.0, l) (v.some, refl)) (rw h₂ (v.noted (other_quote q))));
@@ -153,17 +167,17 @@ module _ {kinds lent cs : List ℕ} {n : ℕ} {d s : Option ℕ} {i : ℕ} (v : 
         slice = stores-none (quote-no-comma q e);
       })
 
-  pub going-double : {left : Option ℕ} (remain : ℕ) → kind_at kinds i ≡ double_quote → AtQuote d n left remain → Going kinds lent cs (min n remain) left s (suc i)
-  going-double {left} remain e g = quote-by double d left _ remain left s e (v.noted double) refl g refl refl
+  pub going-double : {left : Option ℕ} (remain : Option ℕ) → kind_at kinds i ≡ double_quote → AtQuote d n left remain → Going kinds lent cs (left_of n remain) left s (i + 1)
+  going-double {left} remain e g = rw (add-one i) (quote-by double d left _ remain left s e (v.noted double) refl g refl refl)
 
-  pub going-single : {left : Option ℕ} (remain : ℕ) → kind_at kinds i ≡ single_quote → AtQuote s n left remain → Going kinds lent cs (min n remain) d left (suc i)
-  going-single {left} remain e g = quote-by single s left _ remain d left e (v.noted single) refl g refl refl
+  pub going-single : {left : Option ℕ} (remain : Option ℕ) → kind_at kinds i ≡ single_quote → AtQuote s n left remain → Going kinds lent cs (left_of n remain) d left (i + 1)
+  going-single {left} remain e g = rw (add-one i) (quote-by single s left _ remain d left e (v.noted single) refl g refl refl)
 
   -- any other token changes nothing
-  pub going-other : (kind_at kinds i ≡ close_bracket → ⊥) → (kind_at kinds i ≡ comma → ⊥) → (kind_at kinds i ≡ double_quote → ⊥) → (kind_at kinds i ≡ single_quote → ⊥) → Going kinds lent cs (min n n) d s (suc i)
+  pub going-other : (kind_at kinds i ≡ close_bracket → ⊥) → (kind_at kinds i ≡ comma → ⊥) → (kind_at kinds i ≡ double_quote → ⊥) → (kind_at kinds i ≡ single_quote → ⊥) → Going kinds lent cs n d s (i + 1)
   going-other a b c e =
       let t = after-other kinds i b no-quote in
-      rw (min-self n) (record {
+      rw (add-one i) (record {
         some = v.some;
         few = omega (arith, v.few);
         places = v.places ∙ ap (λ (x : State). x.commas) (sym t);

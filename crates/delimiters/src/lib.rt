@@ -7,24 +7,25 @@ ghost use Rattle.delimiters.specs.Outcome.{Outcome};
 
 use token::kind::TokenKind;
 
-// How many tokens are counted, and how many of their commas divide. A count and no slice of places: the buffer is the caller's, since there is no heap.
-#[derive(Clone, Copy)]
+// How many tokens are counted, and how many of their commas divide. A count and no slice of the buffer: the contract says what each number of the
+// buffer is as the call returns, and a buffer that the answer still borrows has no value then (tried).
+#[derive(Clone, Copy, Debug, PartialEq, Eq)]
 pub struct Delimited {
     pub counted: usize,
     pub commas: usize,
 }
 
-// How many of the stretches are to remain after a quote. The first quote of a kind notes how many there are, and all remain; the second takes the note,
-// and no more than the first noted are to remain.
-fn at_quote(noted: &mut Option<usize>, stretches: usize) -> usize
+// What a quote does, by what is noted of its kind: the first notes how many stretches there are; the second takes the note, and answers how many
+// stretches are to remain.
+fn at_quote(noted: &mut Option<usize>, stretches: usize) -> Option<usize>
     ensures { AtQuote noted.old stretches noted.new result }
 {
     match noted.take() {
         None => {
             *noted = Some(stretches);
-            stretches
+            None
         }
-        Some(first) => first,
+        first => first,
     }
 }
 
@@ -39,8 +40,8 @@ pub fn find_delimiters(kinds: &[u8], commas: &mut [u16]) -> Delimited
     let mut double: Option<usize> = None;
     let mut single: Option<usize> = None;
     let mut counted = kinds.len().saturating_sub(1);
-    'tokens: for i in 0..counted {
-        let remain = match TokenKind::try_from(kinds[i]) {
+    'tokens: for (i, kind) in kinds[..counted].iter().enumerate() {
+        let remain = match TokenKind::try_from(*kind) {
             Ok(TokenKind::CloseBracket) => {
                 counted = i;
                 break 'tokens;
@@ -48,14 +49,18 @@ pub fn find_delimiters(kinds: &[u8], commas: &mut [u16]) -> Delimited
             Ok(TokenKind::Comma) => {
                 commas[stretches - 1] = i as u16;
                 stretches += 1;
-                stretches
+                None
             }
             Ok(TokenKind::DoubleQuote) => at_quote(&mut double, stretches),
             Ok(TokenKind::SingleQuote) => at_quote(&mut single, stretches),
-            _ => stretches,
+            _ => None,
+        };
+        let Some(remain) = remain else {
+            continue 'tokens;
         };
         // Rejoin the last stretch to the one before it while more than those remain. A turn takes back a comma that was stored for a token of its own,
-        // so over a whole line there are fewer turns than tokens (`rejoinings-few` of CommaLaws): the time is linear.
+        // so over a whole line there are fewer turns than tokens (`rejoinings-few` of CommaLaws): the time is linear. A loop by hand, and no `min`,
+        // as is the labelled loop around it: document 01 names this form.
         while remain < stretches {
             stretches -= 1;
         }

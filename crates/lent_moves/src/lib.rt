@@ -8,7 +8,8 @@ ghost use Rattle.substitutions.specs.Moves.{insert_answer, remove_answer, prepen
 use refusals::Refusal;
 use substitutions::{Mode, Subs, Substitutions};
 
-// A set that is refused is left as it was. Three functions and none that is told the move: each is a line, and its contract names its own answer.
+// A set that is refused is left as it was. Three functions and none that is told the move: document 01 ("Form by location") asks for insert, remove
+// and prepend, "each a thin call of the by-value move".
 pub fn insert_into(set: &mut Substitutions, mode: Mode, sub: Subs) -> Result<(), Refusal>
     ensures value { refusal_number result ≡ (insert_answer mode set.old sub).refusal }
     ensures left { set.new ≡ (insert_answer mode set.old sub).set }

@@ -28,42 +28,58 @@ const KINDS: [Subs; 7] = [
     Subs::Callouts,
 ];
 
-fn by_value(how: Move, mode: Mode, set: Substitutions, sub: Subs) -> SetAnswer
-    ensures { result ≡ answered how mode set sub }
-{
-    set.answer(set.make(how, mode, sub))
+// What is asked of a set: a move, in a mode, of a kind.
+#[derive(Clone, Copy)]
+struct Case {
+    strategy: Move,
+    mode: Mode,
+    sub: Subs,
 }
 
-// A copy of the set is lent to the move, and handed back with the number of the refusal that the move returns.
-fn on_loan(how: Move, mode: Mode, set: Substitutions, sub: Subs) -> SetAnswer
-    ensures { result ≡ answered how mode set sub }
-{
-    let mut lent = set;
-    let outcome = match how {
-        Move::Insert => insert_into(&mut lent, mode, sub),
-        Move::Remove => remove_from(&mut lent, mode, sub),
-        Move::Prepend => prepend_to(&mut lent, mode, sub),
-    };
-    SetAnswer {
-        refusal: number_or_0(outcome),
-        set: lent,
+impl Case {
+    // The answer as C is handed it, and no `Result`: a refused set is compared too, and one definition (`answered`) says both.
+    fn by_value(self, set: Substitutions) -> SetAnswer
+        ensures { result ≡ answered self.strategy self.mode set self.sub }
+    {
+        set.answer(set.make(self.strategy, self.mode, self.sub))
+    }
+
+    // A copy of the set is lent to the move, and handed back with the number of the refusal that the move returns. A `match` and no closure
+    // that is handed in: the contract names the move.
+    fn on_loan(self, set: Substitutions) -> SetAnswer
+        ensures { result ≡ answered self.strategy self.mode set self.sub }
+    {
+        let mut lent = set;
+        let outcome = match self.strategy {
+            Move::Insert => insert_into(&mut lent, self.mode, self.sub),
+            Move::Remove => remove_from(&mut lent, self.mode, self.sub),
+            Move::Prepend => prepend_to(&mut lent, self.mode, self.sub),
+        };
+        SetAnswer {
+            refusal: number_or_0(outcome),
+            set: lent,
+        }
+    }
+
+    // 1 where the two answers differ, else 0. A number and no bool: the answers that differ are added up.
+    fn differs(self, set: Substitutions) -> u64
+        ensures { result ≤ 1 }
+    {
+        u64::from(self.by_value(set) != self.on_loan(set))
     }
 }
 
-// 1 where the two answers differ, else 0. A number and no bool: the answers that differ are added up.
-fn differs(how: Move, mode: Mode, set: Substitutions, sub: Subs) -> u64
-    ensures { result ≤ 1 }
-{
-    u64::from(by_value(how, mode, set, sub) != on_loan(how, mode, set, sub))
-}
-
-// The three moves with one kind.
+// The three moves of one kind.
 fn over_mode(mode: Mode, set: Substitutions, sub: Subs) -> u64
     ensures { result ≤ 3 }
 {
-    differs(Move::Insert, mode, set, sub)
-        + differs(Move::Remove, mode, set, sub)
-        + differs(Move::Prepend, mode, set, sub)
+    let differs = |strategy| Case {
+        strategy,
+        mode,
+        sub,
+    }
+    .differs(set);
+    differs(Move::Insert) + differs(Move::Remove) + differs(Move::Prepend)
 }
 
 // The same in both modes.
@@ -88,6 +104,8 @@ fn over_flags(places: [u8; 7]) -> Count
     ensures { (result.held ≤ 256) × ((result.refused ≤ 256) × (result.differ ≤ 10752)) }
 {
     let mut count = Count::default();
+    // The kinds are taken in turn, by index. `(0..=255u8).zip(KINDS.iter().cycle())` was tried: that the sums fit did not close, since the turns of a
+    // `zip` are not counted for the loop.
     for n in 0..256usize {
         let flags = n as u8;
         let set = Substitutions { places, flags };
@@ -102,20 +120,12 @@ fn over_flags(places: [u8; 7]) -> Count
     count
 }
 
-// The flag of the kind in a place, 0 for a place that holds none.
-fn flag_of(place: u8) -> u64
-    ensures { result ≤ 64 }
-{
-    Subs::try_from(place).map_or(0, |sub| u64::from(sub.flag()))
-}
-
-// The flags of the places, if no kind has two places.
+// The flags of the kinds in the places.
 fn flags_of(places: [u8; 7]) -> u8 {
-    let mut flags: u64 = 0;
-    for place in places {
-        flags += flag_of(place);
-    }
-    (flags % 256) as u8
+    places
+        .iter()
+        .filter_map(|place| Subs::try_from(*place).ok())
+        .fold(0, |flags, sub| flags | sub.flag())
 }
 
 // The places whose digits to the base 9 are the number's.
@@ -135,6 +145,7 @@ fn over_places() -> Count
     ensures { (result.held ≤ 1224440064) × (result.refused ≤ 1224440064) }
 {
     let mut count = Count::default();
+    // Numbers whose digits are the places. The kinds are taken in turn, by index, as in `over_flags`, where a `zip` with a cycle did not close.
     for number in 0..4782969usize {
         let places = places_of(number);
         let flags = flags_of(places);

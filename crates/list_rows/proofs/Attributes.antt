@@ -2,11 +2,12 @@
 use Prim.Native.Nat.{ℕ, suc, ◌+◌, ◌*◌, ◌-◌, ◌≤◌, ◌<◌}
 use native.Mathlib.Omega.{arith}
 use borrow.Author.Tests.{eqb-true}
-use mathlib.Core.Bool.{Bool, true, false, ◌&&◌, false≢true}
+use mathlib.Core.Bool.{Bool, true, false, ◌&&◌}
 use mathlib.Core.Path.{◌≡◌, refl, sym, ap, ◌∙◌}
 use mathlib.Core.List.{List, [], ◌∷◌}
 use lib.Dec.{eqb}
 use lib.ListN.{length, get_or}
+use Rattle.std.proofs.lemmas.Bool.{and_parts}
 use Rattle.token.specs.Kind.{word}
 use Rattle.token.specs.Line.{Line, token_at, lexeme_at, run, empty_run}
 use Rattle.runs.specs.Run.{kept, run_of, last_of, trim, trim_start, trim_end, leave, quoted, unquote}
@@ -25,7 +26,7 @@ use Rattle.put_rows.specs.Written.{WroteId}
 use Rattle.attribute.specs.Outcome.{Attributed}
 use Rattle.put_rows.proofs.Outcomes.{all_told}
 use Rattle.list_rows.specs.ListRows.{rows_from}
-use Rattle.list_rows.proofs.ListRowsLaws.{Listing, listing-comma, listing-end, listing-next, listing-last}
+use Rattle.list_rows.proofs.ListRowsLaws.{Listing, listing-comma, listing-next, listing-last}
 
 -- ---- an attribute of no tokens, and one of one Word: the row that is written for it
 
@@ -50,13 +51,9 @@ word_kept : (l : Line) (p : ℕ) → get_or l.kinds p 0 ≡ word → kept l p (p
 unfolding token_at
 word_kept l p e = kept-one l p (λ z. absurd (omega (arith, e, z))) ∙ rw e refl
 
-both_true : (a b : Bool) → a && b ≡ true → (a ≡ true) × (b ≡ true)
-both_true true b e = (refl, e)
-both_true false b e = absurd (false≢true e)
-
 pub word_row : (block has : Bool) (l : Line) (from to : ℕ) → (eqb to (from + 1) && eqb (get_or l.kinds from 0) word) ≡ true → (row : Row) → row ≡ one_run tag.Positional (run from 1) → one_row has row ≡ attribute block has (kept l from to)
 word_row block has l from to t row is =
-    let w = both_true (eqb to (from + 1)) (eqb (get_or l.kinds from 0) word) t in
+    let w = and_parts (eqb to (from + 1)) (eqb (get_or l.kinds from 0) word) t in
     let one : suc (from - from) ≡ 1 = omega arith in
     ap (one_row has) is
     ∙ sym (
@@ -74,11 +71,6 @@ module _ (l : Line) (commas : List ℕ) (end : ℕ) (block : Bool) (base cur : L
   comma-room c e h room =
       let v = listing-comma l commas end block base cur from at id j w h in
       rw e (v.0, v.1, omega (arith, v.0, v.1, w.few, w.writes.long, room))
-
-  pub end-room : width * (end + 1) ≤ length base → (from ≤ end) × (width * (at + (end - from) + 1) ≤ length cur)
-  end-room room =
-      let v = listing-end l commas end block base cur from at id j w in
-      (v, omega (arith, v, w.few, w.writes.long, room))
 
   pub next : (c : ℕ) → c ≡ get_or commas j 0 → j < length commas → (r : Written) (after : List ℕ) → Attributed l from c block id cur at r after → Listing l commas end block base after (c + 1) r.rows r.id (j + 1)
   next c e h r after v =

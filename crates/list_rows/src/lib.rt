@@ -32,7 +32,7 @@ fn attr_rows(tokens: Tokens<'_>, block: bool, rows: &mut [u32], written: Written
     ensures { Attributed (line_in tokens.entry.line) tokens.entry.from.0 tokens.entry.to.0 block written.id rows.old written.rows result rows.new }
 {
     if tokens.from.0 == tokens.to.0 {
-        return written.put_one(rows, Row::one_run(Tag::EmptyPositional, Run::EMPTY));
+        return written.put_empty(rows);
     }
     if one_word(tokens) {
         let word = Run {
@@ -45,7 +45,8 @@ fn attr_rows(tokens: Tokens<'_>, block: bool, rows: &mut [u32], written: Written
 }
 
 // Writes the rows of the attributes that the commas part, first to last, and answers how many there are. The last attribute goes on to the closing
-// bracket at `end`. `block` says that the entry is the block entry.
+// bracket at `end`. `block` says that the entry is the block entry. Inlined: it is called for each of two arrays of commas, and once a line.
+#[inline(always)]
 pub fn list_rows(
     line: Line<'_>,
     commas: &[u16],

@@ -4,24 +4,25 @@ use native.Mathlib.Omega.{arith}
 use mathlib.Core.Bool.{Bool, true, false, ◌||◌}
 use mathlib.Core.Path.{◌≡◌, refl, sym, ap, subst, ◌∙◌}
 use mathlib.Core.List.{List, [], ◌∷◌}
-use lib.Dec.{eqb}
 use lib.ListN.{length, get_or}
 use lib.Seq.{sets}
-use borrow.Author.Tests.{eq-eqb, ne_eqb, eqb-true, eqb-false}
+use borrow.Author.Tests.{eq-eqb, ne_eqb}
 use Rattle.token.specs.declared.Run.{Run}
 use Rattle.token.specs.Kind.{attr_ref, dots, hash, percent}
 use Rattle.token.specs.Line.{Token, line_of, token_at}
-use Rattle.runs.specs.Run.{kept, of_kind, of_one, trim, run_of, onward}
-use Rattle.runs.proofs.KeptLaws.{none-start, none-skip, none_more, found_here, found_none}
+use Rattle.runs.specs.Run.{kept, of_kind, of_one, is_hash, is_percent, trim, run_of}
 use Rattle.runs.specs.Places.{FoundAt}
 use Rattle.runs.proofs.NamesLaws.{kind-of}
+use Rattle.std.proofs.lemmas.Bool.{false≢true}
+use Rattle.runs.specs.declared.places.Places as read
+use Rattle.runs.proofs.Finds.{found-in}
 use Rattle.row.specs.declared.Row.{Row}
 use Rattle.row.specs.declared.tag.Tag.{Tag}
 use Rattle.row.specs.Row.{width, numbers, one_run, diagnostic, ident, Wrote}
 use Rattle.row.proofs.Laws.{Writes, writes_start, writes-part, writes-wrote, wrote_none, wrote_one}
 use Rattle.put_rows.specs.declared.Written.{Written}
 use Rattle.put_rows.specs.Rows.{Read, one_row, is_stop, unless_empty, groups, group_rows, id_run}
-use Rattle.put_rows.specs.Written.{WroteId, StopsAt}
+use Rattle.put_rows.specs.Written.{WroteId, StopsAt, Grouped}
 use Rattle.put_rows.proofs.Lists.{groups-next, groups-last, group_rows-first, unless-none, run-count}
 
 -- ---- one row
@@ -109,44 +110,25 @@ module _ (has : Bool) (run : Run) where
 -- ---- stops
 
 module _ (t : Token) where
-  pub stop-hash : t.kind ≡ hash → true ≡ is_stop t
-  stop-hash e = sym (rw e)
+  pub stop-either : (is_hash t || is_percent t) ≡ true → true ≡ is_stop t
+  stop-either e = sym (rw e)
 
   pub stop-dots : t.kind ≡ dots → (b : Bool) → of_one t ≡ b → b ≡ is_stop t
   stop-dots e b f = sym (rw (e, f))
 
-  pub stop-percent : (t.kind ≡ dots → ⊥) → (t.kind ≡ hash → ⊥) → eqb t.kind percent ≡ is_stop t
-  stop-percent a b = rw (ne_eqb t.kind hash b, ne_eqb t.kind dots a) (go (eqb t.kind percent))
-    where
-      go : (b : Bool) → b ≡ (b || false)
-      go true = refl
-      go false = refl
-
-pub record Stopping (kinds text pairs : List ℕ) (from to i : ℕ) : Type 0 where
-  pub low : from ≤ i
-  pub high : i ≤ to
-  pub none : onward is_stop (kept (line_of kinds text pairs) from i) ≡ []
+  pub stop-other : (t.kind ≡ dots → ⊥) → (t.kind ≡ hash → ⊥) → (t.kind ≡ percent → ⊥) → false ≡ is_stop t
+  stop-other a b d = sym (rw (ne_eqb t.kind hash b, ne_eqb t.kind percent d, ne_eqb t.kind dots a))
 
 module _ (kinds text pairs : List ℕ) (from to : ℕ) where
-  pub stopping-start : from ≤ to → Stopping kinds text pairs from to from
-  stopping-start h = record { low = omega arith; high = h; none = none-start (line_of kinds text pairs) is_stop from }
-
   ref-no-stop : (i : ℕ) → get_or kinds i 0 ≡ attr_ref → is_stop (token_at (line_of kinds text pairs) i) ≡ false
   ref-no-stop i e = rw (kind-of (line_of kinds text pairs) i attr_ref e)
 
-  pub stopping-next : (i : ℕ) → i < to → is_stop (token_at (line_of kinds text pairs) i) ≡ false → Stopping kinds text pairs from to i → Stopping kinds text pairs from to (i + 1)
-  stopping-next i h e w = go (eqb (get_or kinds i 0) attr_ref) refl
-    where
-      go : (b : Bool) → eqb (get_or kinds i 0) attr_ref ≡ b → Stopping kinds text pairs from to (i + 1)
-      go true f = record { low = omega (arith, w.low); high = omega arith; none = none-skip (line_of kinds text pairs) is_stop from i w.low (eqb-true _ _ f) w.none }
-      go false f = record { low = omega (arith, w.low); high = omega arith; none = none_more (line_of kinds text pairs) is_stop from i w.low (eqb-false _ _ f) e w.none }
+  -- the first place that holds a symbol, where none does before
+  pub stops-first : (r : ℕ) → from ≤ r → r ≤ to → ((i : ℕ) → from ≤ i → i < r → is_stop (token_at (line_of kinds text pairs) i) ≡ false) → (r < to → is_stop (token_at (line_of kinds text pairs) r) ≡ true) → StopsAt kinds text pairs from to r
+  stops-first r low high before here =
+      record { low = low; high = high; found = found-in (line_of kinds text pairs) is_stop from to r low high before (λ h. record { kept = λ f. false≢true (sym (ref-no-stop r f) ∙ here h); here = here h }) }
 
-  pub stopping-here : (i : ℕ) → i < to → is_stop (token_at (line_of kinds text pairs) i) ≡ true → Stopping kinds text pairs from to i → StopsAt kinds text pairs from to i
-  stopping-here i h e w =
-      record { low = w.low; high = w.high; found = found_here (line_of kinds text pairs) is_stop from to i w.low h (λ f. clash (ref-no-stop i f)) e w.none }
-    where
-      clash : is_stop (token_at (line_of kinds text pairs) i) ≡ false → ⊥
-      clash f = let z : ◌≡◌ {A = ℕ} 0 1 = cc in omega arith
+-- ---- what is so of places is so of those that they are equal to
 
-  pub stopping-end : (i : ℕ) → to ≤ i → Stopping kinds text pairs from to i → StopsAt kinds text pairs from to i
-  stopping-end i h w = record { low = w.low; high = w.high; found = found_none (line_of kinds text pairs) is_stop from to i (omega (arith, w.high)) w.none }
+pub grouped-of : {p q : read.Places} {has : Bool} {before : List ℕ} {at : ℕ} {r : Written} {after : List ℕ} (kind : ℕ) (tag : Tag) → p ≡ q → Grouped p.kinds.now kind tag p.from.0 p.to.0 has before at r after → Grouped q.kinds.now kind tag q.from.0 q.to.0 has before at r after
+grouped-of {has = has} {before = before} {at = at} {r = r} {after = after} kind tag e w = subst (λ (p : read.Places). Grouped p.kinds.now kind tag p.from.0 p.to.0 has before at r after) e w

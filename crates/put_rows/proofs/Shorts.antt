@@ -1,13 +1,13 @@
 -- The loop over the pieces of a shorthand.
-use Prim.Native.Nat.{ℕ, ◌+◌, ◌*◌, ◌-◌, ◌≤◌, ◌<◌}
+use Prim.Native.Nat.{ℕ, ◌+◌, ◌-◌, ◌≤◌, ◌<◌}
 use native.Mathlib.Omega.{arith}
 use mathlib.Core.Bool.{Bool, true, false, ◌&&◌, ◌||◌}
-use mathlib.Core.Path.{◌≡◌, refl, sym, ap, subst, ◌∙◌}
+use mathlib.Core.Path.{◌≡◌, sym, ap, subst, ◌∙◌}
 use mathlib.Core.List.{List, [], ◌∷◌}
 use lib.Dec.{eqb}
 use lib.ListN.{length, get_or}
-use lib.Seq.{sets, length-sets}
 use borrow.Author.Tests.{eq-eqb, ne_eqb}
+use Rattle.std.proofs.Math.Bool.{and-false, or-true, or-false}
 use Rattle.token.specs.declared.Run.{Run}
 use Rattle.token.specs.Kind.{hash, percent}
 use Rattle.token.specs.Line.{line_of, token_at}
@@ -16,8 +16,8 @@ use Rattle.runs.proofs.KeptLaws.{kind-is, kept-none}
 use Rattle.runs.specs.Places.{all, StartsAt}
 use Rattle.row.specs.declared.Row.{Row}
 use Rattle.row.specs.declared.tag.Tag.{Tag}
-use Rattle.row.specs.Row.{width, numbers, one_run, diagnostic}
-use Rattle.row.proofs.Laws.{Writes, writes_start, writes-put, writes-part, writes-wrote}
+use Rattle.row.specs.Row.{one_run, diagnostic}
+use Rattle.row.proofs.Laws.{Writes, length-with_rows, writes-part, writes-wrote}
 use Rattle.put_rows.specs.declared.Written.{Written}
 use Rattle.put_rows.specs.Rows.{Read, one_row, row_first, symbol_tag, pieces, shorthand_read}
 use Rattle.put_rows.specs.Written.{WroteId, StopsAt, StopFirst}
@@ -33,25 +33,13 @@ module _ (kind : ℕ) (id : Bool) where
   no-hash n = rw (ne_eqb kind hash n)
 
   pub first-id : id ≡ false → (eqb kind hash && id) ≡ false
-  first-id f = rw f (go (eqb kind hash))
-    where
-      go : (b : Bool) → (b && false) ≡ false
-      go true = refl
-      go false = refl
+  first-id f = rw f (and-false (eqb kind hash))
 
   pub has-id : id ≡ true → id ≡ (eqb kind hash || id)
-  has-id f = rw f (go (eqb kind hash))
-    where
-      go : (b : Bool) → true ≡ (b || true)
-      go true = refl
-      go false = refl
+  has-id f = rw f (sym (or-true (eqb kind hash)))
 
   pub hash-id : id ≡ false → eqb kind hash ≡ (eqb kind hash || id)
-  hash-id f = rw f (go (eqb kind hash))
-    where
-      go : (b : Bool) → b ≡ (b || false)
-      go true = refl
-      go false = refl
+  hash-id f = rw f (sym (or-false (eqb kind hash)))
 
 -- ---- the loop
 
@@ -70,9 +58,6 @@ record Left (kinds text pairs : List ℕ) (from to : ℕ) (has : Bool) (base : L
   pub ids : d.has_id ≡ (shorthand_read has (pieces (kept (line_of kinds text pairs) from to))).has_id
 
 module _ (kinds text pairs : List ℕ) (from to : ℕ) (has : Bool) (base : List ℕ) (at : ℕ) where
-  pub shorting-start : from ≤ to → StopFirst kinds text pairs from to → Shorting kinds text pairs from to has base at from base at has
-  shorting-start h w = record { low = omega arith; high = h; few = omega arith; long = refl; symbol = w; writes = writes_start base at _; ids = refl }
-
   module _ (i : ℕ) (cur : List ℕ) (n : ℕ) (id : Bool) (w : Shorting kinds text pairs from to has base at i cur n id) where
     left_is : (d : Read) → shorthand_read id (pieces (kept (line_of kinds text pairs) i to)) ≡ d → Left kinds text pairs from to has base at cur n d
     left_is d e = subst (λ (x : Read). Left kinds text pairs from to has base at cur n x) e (record { writes = w.writes; ids = w.ids })
@@ -96,21 +81,21 @@ module _ (kinds text pairs : List ℕ) (from to : ℕ) (has : Bool) (base : List
             ends_by (diagnostic i 4) after q (short-second (line_of kinds text pairs) i to start h (w.symbol.first h) (w.symbol.stop h) (v.part.same text pairs) id g (v.first g) (ap (λ (b : Bool). b && id) (sym hashes) ∙ z))
 
         pub shorting-next : (eqb (get_or kinds i 0) hash && id) ≡ false → (m : ℕ) → StopsAt kinds text pairs start to m → (run : Run) → run ≡ run_of (kept (line_of kinds text pairs) start m) → (tag : Tag) → tag ≡ symbol_tag (get_or kinds i 0)
-            → (row : Row) → row ≡ one_run tag run → (after : List ℕ) → after ≡ sets cur (width * n) (numbers row) → (id' : Bool) → id' ≡ (eqb (get_or kinds i 0) hash || id) → Shorting kinds text pairs from to has base at m after (n + 1) id'
-        shorting-next z m s run e tag f row t after q id' p =
+            → (row : Row) → row ≡ one_run tag run → (id' : Bool) → id' ≡ (eqb (get_or kinds i 0) hash || id) → (after : List ℕ) (q : Written) → WroteId cur n (one_row id' row) after q → Shorting kinds text pairs from to has base at m after q.rows q.id
+        shorting-next z m s run e tag f row t id' p after q put =
             let l = line_of kinds text pairs in
             let tags : symbol_tag (token_at l i).kind ≡ tag = rw (kind-is l i hash, kind-is l i percent) (sym f) in
-            let ids : (is_hash (token_at l i) || id) ≡ id' = ap (λ (b : Bool). b || id) (sym hashes) ∙ sym p in
-            let d = left_is (row_first (one_run tag run) (shorthand_read id' (pieces (kept l m to))))
+            let ids : (is_hash (token_at l i) || id) ≡ q.id = ap (λ (b : Bool). b || id) (sym hashes) ∙ sym p ∙ sym put.id in
+            let d = left_is (row_first row (shorthand_read q.id (pieces (kept l m to))))
             (short-more l i to start h (w.symbol.first h) (w.symbol.stop h) (v.part.same text pairs) id g (v.first g) (ap (λ (b : Bool). b && id) (sym hashes) ∙ z) m s.low s.high s.found
-            ∙ rw (tags, ids, ← e)) in
+            ∙ rw (tags, ids, ← e, ← t)) in
             record {
               low = omega (arith, w.low, v.part.low, s.low);
               high = s.high;
-              few = omega (arith, w.few, w.low, v.part.low, s.low);
-              long = ap length q ∙ length-sets cur (width * n) (numbers row) ∙ w.long;
+              few = omega (arith, w.few, w.low, v.part.low, s.low, put.wrote.count);
+              long = ap length put.wrote.buffer ∙ length-with_rows cur n (row ∷ []) ∙ w.long;
               symbol = record { first = s.found.kept; stop = s.found.here };
-              writes = rw (q, t) (writes-put base at _ cur n (one_run tag run) _ d.writes);
+              writes = writes-part base at _ cur n (row ∷ []) _ after q.rows d.writes put.wrote;
               ids = d.ids;
             }
 

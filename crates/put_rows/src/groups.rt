@@ -15,7 +15,8 @@ use token::TokenPlace;
 use token::kind::TokenKind;
 
 impl Written {
-    // Writes the row of a group, if any token is left when it is trimmed.
+    // Writes the row of a group, if any token is left when it is trimmed. `few` stands here, below and at `put_positional`, since to ask for `Tokens`, whose
+    // line has it, would be to ask for a text and for pairs as well.
     fn put_group(self, rows: &mut [u32], group: Places<'_>, tag: Tag) -> Written
         requires few { length group.kinds.now ≤ most_tokens }
         requires from_in_bounds { width * (self.rows + (group.to.0 - group.from.0)) ≤ length rows.old }
@@ -29,7 +30,9 @@ impl Written {
         self.put_one(rows, Row::one_run(tag, run))
     }
 
-    // Writes a row for each group of some places, split at a kind; whether the list has an id is handed on.
+    // Writes a row for each group of some places, split at a kind; whether the list has an id is handed on. Not inlined, and shorthand neither: few
+    // attributes have either, and reading the others is quicker without.
+    #[inline(never)]
     pub fn put_groups(
         self,
         rows: &mut [u32],

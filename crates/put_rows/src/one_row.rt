@@ -34,7 +34,8 @@ impl Written {
         self.put_one(rows, Row::one_run(Tag::EmptyPositional, Run::EMPTY))
     }
 
-    // Writes the row of the tokens kept of some places, a positional.
+    // Writes the row of the tokens kept of some places, a positional. One of a run that is known is `Row::one_run` in one line, at each of three places
+    // (`attribute::uncut`, `list_rows::attr_rows`, `attr_list::brackets::read_text`).
     pub fn put_positional(self, rows: &mut [u32], places: Places<'_>) -> Written
         requires few { length places.kinds.now ≤ most_tokens }
         requires width_in_bounds { width * self.rows + width ≤ length rows.old }
@@ -56,7 +57,7 @@ impl Written {
         self.put_one(rows, row)
     }
 
-    // Writes a diagnostic.
+    // Writes a diagnostic. Its number stands where another row has a run's count: that is how document 01 lays out this row.
     pub fn put_diagnostic(self, rows: &mut [u32], place: TokenPlace, why: Diagnostic) -> Written
         requires { (width * self.rows + width ≤ length rows.old) × small place.0 }
         ensures { WroteId rows.old self.rows (one_row self.id (diagnostic place.0 (diagnostic_number why))) rows.new result }

@@ -1,7 +1,7 @@
 // Shorthand: each symbol takes tokens up to the next.
 ghost use Rattle.std.specs.Prelude.{◌≡◌, ◌+◌, ◌*◌, ◌-◌, ◌≤◌, ◌<◌, length};
 ghost use Rattle.token.specs.Line.{token_at};
-ghost use Rattle.token.specs.Checked.{line_in};
+ghost use Rattle.token.specs.Checked.{line_in, token_in};
 ghost use Rattle.row.specs.Row.{width};
 ghost use Rattle.put_rows.specs.Rows.{is_stop, symbol_tag};
 ghost use Rattle.put_rows.specs.Written.{StopsAt, StopFirst, Shorthanded};
@@ -13,30 +13,29 @@ use row::tag::Tag;
 use runs::places::{Places, Tokens};
 use token::TokenPlace;
 use token::kind::TokenKind;
-use token::lent::Line;
+use token::lent::Token;
 
-// Whether the token at a place is Hash, Percent or one-byte Dots.
-fn is_stop(line: Line<'_>, at: TokenPlace) -> bool
-    requires { at.0 < length line.kinds.now }
-    ensures { result ≡ is_stop (token_at (line_in line.entry) at.0) }
+// Whether a token is Hash, Percent or one-byte Dots.
+fn is_stop(token: Token<'_>) -> bool
+    ensures { result ≡ is_stop (token_in token.entry) }
 {
-    let kind = line.kinds[at.0];
-    if kind == TokenKind::Dots as u8 {
-        return line.length_of(at) == 1;
+    match TokenKind::try_from(token.kind()) {
+        Ok(TokenKind::Hash | TokenKind::Percent) => true,
+        Ok(TokenKind::Dots) => token.length() == 1,
+        _ => false,
     }
-    kind == TokenKind::Hash as u8 || kind == TokenKind::Percent as u8
 }
 
 // The place of the first Hash, Percent or one-byte Dots, or `to`.
 fn find_stop(tokens: Tokens<'_>) -> TokenPlace
     ensures { StopsAt tokens.entry.line.kinds.now tokens.entry.line.text.now tokens.entry.line.pairs.now tokens.entry.from.0 tokens.entry.to.0 result.0 }
 {
-    for i in tokens.from.0..tokens.to.0 {
-        if is_stop(tokens.line, TokenPlace(i)) {
-            return TokenPlace(i);
-        }
-    }
-    tokens.to
+    let line = tokens.line;
+    let stops = |place: TokenPlace| -> bool
+        requires { place.0 < length line.kinds.now }
+        ensures { result ≡ is_stop (token_at (line_in line.entry) place.0) }
+    { is_stop(Token { line, place }) };
+    tokens.places().find(stops)
 }
 
 // The tag of what a symbol gives: Hash an id, Percent an option, Dots a role.
@@ -52,6 +51,7 @@ fn symbol_tag(kind: u8) -> Tag
 
 impl Written {
     // Writes the rows of an attribute in shorthand.
+    #[inline(never)]
     pub fn push_shorthand(self, rows: &mut [u32], tokens: Tokens<'_>) -> Written
         requires tokens_in_bounds { width * (self.rows + (tokens.to.0 - tokens.from.0)) ≤ length rows.old }
         requires stop_first { StopFirst tokens.line.kinds.now tokens.line.text.now tokens.line.pairs.now tokens.from.0 tokens.to.0 }
@@ -86,11 +86,11 @@ impl Written {
                 from: start,
                 to: end,
             };
-            Row::one_run(symbol_tag(kind), taken.run_of()).put(rows, written.rows);
-            written = Written {
-                rows: written.rows + 1,
+            let next = Written {
+                rows: written.rows,
                 id: has || hash,
             };
+            written = next.put_one(rows, Row::one_run(symbol_tag(kind), taken.run_of()));
             symbol = end;
         }
         written

@@ -1,11 +1,10 @@
 // What is printed of a line of the file: what the reader answers, or what is wrong with the line.
 use crate::call::{Asked, Call};
 use crate::division::{parts_of, signs};
-use crate::reader::{self, Reading};
+use crate::reader::{self, List, Reading};
 use crate::rows::Shown;
 use crate::soft::{softened, write_line};
-use crate::tokens::{Fault, Line};
-use attr_list::entries::Entry;
+use crate::tokens::Fault;
 use refusals::Refusal;
 use std::io;
 
@@ -40,10 +39,16 @@ fn tell_call(rt: &(impl Print + AllocGlobal), number: u64, call: &Call<'_>) -> i
             Ok(false) => println!(rt; "  a block attribute list: no"),
             Err(refusal) => tell_refusal(rt, refusal),
         },
-        Asked::List(entry) => match reader::read(rt.alloc(), entry, &call.line)? {
-            Ok(reading) => tell_reading(rt, entry, &call.line, &reading),
-            Err(refusal) => tell_refusal(rt, refusal),
-        },
+        Asked::List(entry) => {
+            let list = List {
+                entry,
+                line: &call.line,
+            };
+            match list.read(rt.alloc())? {
+                Ok(reading) => tell_reading(rt, list, &reading),
+                Err(refusal) => tell_refusal(rt, refusal),
+            }
+        }
     }
 }
 
@@ -55,14 +60,13 @@ fn tell_refusal(rt: &impl Print, refusal: Refusal) -> io::Result<()> {
 // Prints what a reading finds in a line: its division, its rows, and how many tokens it consumed.
 fn tell_reading(
     rt: &(impl Print + AllocGlobal),
-    entry: Entry,
-    line: &Line,
+    list: List<'_>,
     reading: &Reading,
 ) -> io::Result<()> {
-    draw_division(rt, entry, line, reading.consumed)?;
-    let text = softened(rt.alloc(), &line.text)?;
+    draw_division(rt, list, reading.consumed)?;
+    let text = softened(rt.alloc(), &list.line.text)?;
     let shown = Shown {
-        tokens: &line.tokens,
+        tokens: &list.line.tokens,
         text: &text,
     };
     for row in &reading.rows {
@@ -77,14 +81,14 @@ fn tell_reading(
 // Draws the division of a line, under its text, up to the closing bracket, which is the last token consumed.
 fn draw_division(
     rt: &(impl Print + AllocGlobal),
-    entry: Entry,
-    line: &Line,
+    list: List<'_>,
     consumed: usize,
 ) -> io::Result<()> {
     let alloc = rt.alloc();
+    let line = list.line;
     let bracket = line.tokens.get(consumed.saturating_sub(1));
     let closing = bracket.map_or(0, |token| token.bytes().start);
-    let commas = reader::commas(alloc, entry, line)?;
+    let commas = list.commas(alloc)?;
     let parts = parts_of(alloc, &line.tokens, &commas, closing)?;
     rt.write_all(b"  ")?;
     write_line(rt, &signs(alloc, &line.text, &parts)?)

@@ -10,15 +10,18 @@ pub(crate) enum Asked {
     List(Entry),
 }
 
-impl Asked {
-    fn of(word: &[u8]) -> Option<Asked> {
+impl TryFrom<&[u8]> for Asked {
+    type Error = Problem;
+
+    // Word by word: the words are the file's, and no derive makes a case of one.
+    fn try_from(word: &[u8]) -> Result<Self, Problem> {
         match word {
-            b"block" => Some(Asked::List(Entry::Block)),
-            b"macro" => Some(Asked::List(Entry::BlockMacro)),
-            b"inline" => Some(Asked::List(Entry::Inline)),
-            b"link" => Some(Asked::List(Entry::Link)),
-            b"is" => Some(Asked::IsBlock),
-            _ => None,
+            b"block" => Ok(Asked::List(Entry::Block)),
+            b"macro" => Ok(Asked::List(Entry::BlockMacro)),
+            b"inline" => Ok(Asked::List(Entry::Inline)),
+            b"link" => Ok(Asked::List(Entry::Link)),
+            b"is" => Ok(Asked::IsBlock),
+            _ => Err(Problem::UnknownEntry),
         }
     }
 }
@@ -38,7 +41,7 @@ impl<'a> Call<'a> {
             .split(|b| *b == b' ')
             .filter(|word| !word.is_empty());
         let word = words.next().unwrap_or(written);
-        let asked = Asked::of(word).ok_or(Fault::Wrong(Problem::UnknownEntry, word))?;
+        let asked = Asked::try_from(word).map_err(|problem| Fault::Wrong(problem, word))?;
         let mut line = Line::new(alloc);
         for token in words {
             line.push_word(alloc, token)?;

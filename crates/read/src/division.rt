@@ -3,6 +3,7 @@ ghost use Rattle.std.specs.Prelude.{◌<◌, length};
 
 use crate::tokens::Token;
 use std::alloc::{AllocError, Global};
+use std::ops::Range;
 
 // What a byte of the text belongs to.
 #[derive(Clone, Copy, PartialEq, Eq)]
@@ -12,9 +13,9 @@ pub(crate) enum Part {
     Comma,
 }
 
-// Marks the bytes from `from` up to `to`.
-fn mark(parts: &mut [Part], from: usize, to: usize, part: Part) {
-    if let Some(marked) = parts.get_mut(from..to) {
+// Marks the bytes at some places.
+fn mark(parts: &mut [Part], places: Range<usize>, part: Part) {
+    if let Some(marked) = parts.get_mut(places) {
         marked.fill(part);
     }
 }
@@ -30,13 +31,16 @@ pub(crate) fn parts_of(
     let mut start = 0;
     for place in commas {
         if let Some(comma) = tokens.get(*place as usize) {
-            let bytes = comma.bytes();
-            mark(&mut parts, start, bytes.start, Part::Attribute);
-            mark(&mut parts, bytes.start, bytes.end, Part::Comma);
-            start = bytes.end;
+            let Range {
+                start: from,
+                end: to,
+            } = comma.bytes();
+            mark(&mut parts, start..from, Part::Attribute);
+            mark(&mut parts, from..to, Part::Comma);
+            start = to;
         }
     }
-    mark(&mut parts, start, closing, Part::Attribute);
+    mark(&mut parts, start..closing, Part::Attribute);
     Ok(parts)
 }
 
@@ -47,7 +51,7 @@ fn goes_on(b: u8) -> bool {
 
 // Whether the byte at a place is of an attribute.
 fn is_attribute(parts: &[Part], at: usize) -> bool {
-    at < parts.len() && parts[at] == Part::Attribute
+    parts.get(at) == Some(&Part::Attribute)
 }
 
 // The sign under a character from `at` up to `next`: of an attribute a bracket where it begins and where it ends.
@@ -69,16 +73,13 @@ fn sign(parts: &[Part], at: usize, next: usize) -> u8
     }
 }
 
-// The signs under a text, one for each character. By places and no zip: a sign looks at the parts before and behind its own.
+// The signs under a text, one for each character.
 pub(crate) fn signs(alloc: Global, text: &[u8], parts: &[Part]) -> Result<Vec<u8>, AllocError> {
     let mut drawn = Vec::new(alloc);
-    for at in 0..parts.len().min(text.len()) {
-        if at == 0 || !goes_on(text[at]) {
-            let width = text[at..]
-                .iter()
-                .skip(1)
-                .take_while(|b| goes_on(**b))
-                .count();
+    let end = parts.len().min(text.len());
+    for (at, b) in text[..end].iter().enumerate() {
+        if at == 0 || !goes_on(*b) {
+            let width = text[at + 1..].iter().take_while(|b| goes_on(**b)).count();
             drawn.push(sign(parts, at, at + 1 + width))?;
         }
     }

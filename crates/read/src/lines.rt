@@ -46,19 +46,23 @@ impl Held {
 
     // Tells of each line that ends in a chunk of the file, and holds what stands behind the last.
     fn take_chunk(&mut self, rt: &(impl Print + AllocGlobal), chunk: &[u8]) -> io::Result<()> {
-        let mut rest = chunk;
-        while let Some(end) = rest.iter().position(|b| *b == b'\n') {
-            self.hold(&rest[..end])?;
-            self.end(rt)?;
-            rest = &rest[end + 1..];
+        for part in chunk.split_inclusive(|b| *b == b'\n') {
+            match part.strip_suffix(b"\n") {
+                Some(ended) => {
+                    self.hold(ended)?;
+                    self.end(rt)?;
+                }
+                None => self.hold(part)?,
+            }
         }
-        self.hold(rest)?;
         Ok(())
     }
 }
 
-// Tells of each line of a file, also of a last one that does not end in a newline. So many chunks no file has.
+// Tells of each line of a file, also of a last one that does not end in a newline. The chunks are counted, by a number that no file has: a `loop` needs a
+// measure, and nothing says that a file ends.
 pub(crate) fn tell_all<R: Read>(rt: &(impl Print + AllocGlobal), file: &mut R) -> io::Result<()> {
+    // Fixed memory: 65,536 bytes, however long the file is.
     let mut chunk = [0u8; 65536];
     let mut held = Held::new(rt.alloc());
     for _ in 0..u64::MAX {

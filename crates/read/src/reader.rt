@@ -5,13 +5,14 @@ use crate::tokens::Line;
 use attr_list::entries::Entry;
 use closing::LinkMacro;
 use refusals::Refusal;
+use row::WIDTH;
 use std::alloc::{AllocError, Global};
 use token::line::MOST_TOKENS;
 
-// What a reading finds: its rows, of five numbers each, and how many tokens it consumed.
+// What a reading finds: its rows, each as the numbers that the library writes to the buffer it is lent, and how many tokens it consumed.
 #[derive(Drop)]
 pub(crate) struct Reading {
-    pub(crate) rows: Vec<[u32; 5]>,
+    pub(crate) rows: Vec<[u32; WIDTH]>,
     pub(crate) consumed: usize,
 }
 
@@ -39,39 +40,45 @@ pub(crate) fn is_block(alloc: Global, line: &Line) -> Result<Result<bool, Refusa
     Ok(attr_list::is_block_attr_list(&lent.kinds, &line.text, pairs))
 }
 
-// What one of the four readings answers.
-pub(crate) fn read(
-    alloc: Global,
-    entry: Entry,
-    line: &Line,
-) -> Result<Result<Reading, Refusal>, AllocError> {
-    let lent = Lent::new(alloc, line)?;
-    let pairs = lent.pairs.as_flattened();
-    let mut rows = vec![in alloc; [0u32; 5]; MOST_TOKENS]?;
-    let buffer = rows.as_flattened_mut();
-    let answer = attr_list::parse_attr_list(entry, &lent.kinds, &line.text, pairs, buffer);
-    Ok(answer.map(|read| {
-        rows.truncate(read.rows);
-        Reading {
-            rows,
-            consumed: read.consumed,
-        }
-    }))
+// A line that one of the four readings is asked to read.
+#[derive(Clone, Copy)]
+pub(crate) struct List<'a> {
+    pub(crate) entry: Entry,
+    pub(crate) line: &'a Line,
 }
 
-// The places of the commas that divide a line that is read: a link's text is not divided.
-pub(crate) fn commas(alloc: Global, entry: Entry, line: &Line) -> Result<Vec<u16>, AllocError> {
-    let lent = Lent::new(alloc, line)?;
-    let tokens = lent.kinds.len().min(MOST_TOKENS);
-    let kinds = &lent.kinds[..tokens];
-    if entry == Entry::Link {
-        let holds = closing::link_macro(kinds, lent.pairs[..tokens].as_flattened());
-        if matches!(holds, LinkMacro::AsText(_)) {
-            return Ok(Vec::new(alloc));
-        }
+impl List<'_> {
+    // What the reading answers.
+    pub(crate) fn read(self, alloc: Global) -> Result<Result<Reading, Refusal>, AllocError> {
+        let lent = Lent::new(alloc, self.line)?;
+        let pairs = lent.pairs.as_flattened();
+        let mut rows = vec![in alloc; [0u32; WIDTH]; MOST_TOKENS]?;
+        let buffer = rows.as_flattened_mut();
+        let text = &self.line.text;
+        let answer = attr_list::parse_attr_list(self.entry, &lent.kinds, text, pairs, buffer);
+        Ok(answer.map(|read| {
+            rows.truncate(read.rows);
+            Reading {
+                rows,
+                consumed: read.consumed,
+            }
+        }))
     }
-    let mut commas = vec![in alloc; 0u16; tokens]?;
-    let found = delimiters::find_delimiters(kinds, &mut commas);
-    commas.truncate(found.commas);
-    Ok(commas)
+
+    // The places of the commas that divide the line: a link's text is not divided.
+    pub(crate) fn commas(self, alloc: Global) -> Result<Vec<u16>, AllocError> {
+        let lent = Lent::new(alloc, self.line)?;
+        let tokens = lent.kinds.len().min(MOST_TOKENS);
+        let kinds = &lent.kinds[..tokens];
+        if self.entry == Entry::Link {
+            let holds = closing::link_macro(kinds, lent.pairs[..tokens].as_flattened());
+            if matches!(holds, LinkMacro::AsText(_)) {
+                return Ok(Vec::new(alloc));
+            }
+        }
+        let mut commas = vec![in alloc; 0u16; tokens]?;
+        let found = delimiters::find_delimiters(kinds, &mut commas);
+        commas.truncate(found.commas);
+        Ok(commas)
+    }
 }

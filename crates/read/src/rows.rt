@@ -1,9 +1,30 @@
 // The rows that a reading finds, in words.
 use crate::tokens::Token;
 use row::diagnostic::Diagnostic;
-use row::tag::Tag;
+use row::tag::{NotATag, Tag};
+use row::{Row, WIDTH};
 use std::io;
 use token::kind::TokenKind;
+use token::{Run, TokenPlace};
+
+// A run of a row, which is told by two numbers.
+fn run_of(place: u32, count: u32) -> Run {
+    Run {
+        place: TokenPlace(place as usize),
+        count: count as usize,
+    }
+}
+
+// The row that is told by its numbers. No `TryFrom`, since neither the trait nor the row is this crate's; in `row` it would be a public conversion with a
+// contract, for this one caller.
+fn row_of(numbers: [u32; WIDTH]) -> Result<Row, NotATag> {
+    let [tag, place, count, second_place, second_count] = numbers;
+    Ok(Row {
+        tag: Tag::try_from(tag)?,
+        first: run_of(place, count),
+        second: run_of(second_place, second_count),
+    })
+}
 
 // The tokens of a line, and their text as it is printed.
 #[derive(Clone, Copy)]
@@ -13,10 +34,10 @@ pub(crate) struct Shown<'a> {
 }
 
 impl Shown<'_> {
-    // Writes a label, and what the run of `count` tokens from `place` on says: their texts, AttrRef tokens skipped.
-    fn write_run(self, rt: &impl Print, label: &str, place: u32, count: u32) -> io::Result<()> {
+    // Writes a label, and what a run says: the texts of its tokens, AttrRef tokens skipped.
+    fn write_run(self, rt: &impl Print, label: &str, run: Run) -> io::Result<()> {
         print!(rt; "{label}`")?;
-        for token in self.tokens.iter().skip(place as usize).take(count as usize) {
+        for token in self.tokens.iter().skip(run.place.0).take(run.count) {
             if token.kind != TokenKind::AttrRef {
                 rt.write_all(self.text.get(token.bytes()).unwrap_or(b""))?;
             }
@@ -24,32 +45,41 @@ impl Shown<'_> {
         rt.write_all(b"`")
     }
 
-    // Writes a row on a line of its own: its tag, then its two runs.
-    pub(crate) fn write_row(self, rt: &impl Print, row: [u32; 5]) -> io::Result<()> {
-        let [tag, place, count, value_place, value_count] = row;
-        rt.write_all(b"  ")?;
-        let Ok(tag) = Tag::try_from(tag) else {
-            return rt.write_all(b"\n");
-        };
-        match tag {
-            Tag::EmptyPositional => rt.write_all(b"positional, empty")?,
-            Tag::Positional => self.write_run(rt, "positional ", place, count)?,
-            Tag::Id => self.write_run(rt, "id ", place, count)?,
-            Tag::Role => self.write_run(rt, "role ", place, count)?,
-            Tag::Option => self.write_run(rt, "option ", place, count)?,
+    // Writes a row: its tag, then what its runs say.
+    fn write_words(self, rt: &impl Print, row: Row) -> io::Result<()> {
+        match row.tag {
+            Tag::EmptyPositional => rt.write_all(b"positional, empty"),
+            Tag::Positional => self.write_run(rt, "positional ", row.first),
+            Tag::Id => self.write_run(rt, "id ", row.first),
+            Tag::Role => self.write_run(rt, "role ", row.first),
+            Tag::Option => self.write_run(rt, "option ", row.first),
             Tag::Named => {
-                self.write_run(rt, "named ", place, count)?;
-                self.write_run(rt, " = ", value_place, value_count)?;
+                self.write_run(rt, "named ", row.first)?;
+                self.write_run(rt, " = ", row.second)
             }
             Tag::Plain => {
-                self.write_run(rt, "named, read under none, ", place, count)?;
-                self.write_run(rt, " = ", value_place, value_count)?;
+                self.write_run(rt, "named, read under none, ", row.first)?;
+                self.write_run(rt, " = ", row.second)
             }
             Tag::Diagnostic => {
-                if let Ok(problem) = Diagnostic::try_from(count) {
-                    print!(rt; "diagnostic {count}, {problem}, at token {place}")?;
+                let number = row.first.count;
+                let decoded = u32::try_from(number).ok();
+                if let Some(problem) = decoded.and_then(|n| Diagnostic::try_from(n).ok()) {
+                    print!(rt;
+                        "diagnostic {number}, {problem}, at token {}",
+                        row.first.place.0
+                    )?;
                 }
+                Ok(())
             }
+        }
+    }
+
+    // Writes a row on a line of its own.
+    pub(crate) fn write_row(self, rt: &impl Print, numbers: [u32; WIDTH]) -> io::Result<()> {
+        rt.write_all(b"  ")?;
+        if let Ok(row) = row_of(numbers) {
+            self.write_words(rt, row)?;
         }
         rt.write_all(b"\n")
     }

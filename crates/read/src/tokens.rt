@@ -8,7 +8,7 @@ use std::ops::Range;
 use token::kind::TokenKind;
 use token::line::{MOST_BYTES, MOST_TOKENS};
 
-// The names of the kinds, in the order of their numbers.
+// The names of the kinds, in the order of their numbers. A table and no text of a derive: a name of the file is looked up in it.
 const NAMES: [&str; 51] = [
     "Ampersand",
     "AttrDef",
@@ -157,13 +157,13 @@ impl Line {
     }
 }
 
-// The kind of a name.
+// The kind of a name. No `TryFrom`, since neither the trait nor the kind is this crate's.
 fn kind_named(name: &[u8]) -> Option<TokenKind> {
     let number = NAMES.iter().position(|known| known.as_bytes() == name)?;
     TokenKind::try_from(number as u8).ok()
 }
 
-// What a hexadecimal digit counts.
+// What a hexadecimal digit counts: `to_digit(16)` takes capitals too.
 fn hex(digit: u8) -> Option<u8>
     ensures { IfSome result (λ n. n < 16) }
 {

@@ -1,10 +1,11 @@
-// Why a call is turned away: the README's table, in the order of its rows. A caller sees these numbers in every answer, so each is pinned by a
-// contract.
+// Why a call is turned away: the README's table, in the order of its rows. C is told the numbers, and the programs print number and words, so both are
+// pinned by contracts.
 #![tactic(auto)]
 
-ghost use Rattle.std.specs.Prelude.{◌≡◌};
+ghost use Rattle.std.specs.Prelude.{◌≡◌, Some};
 ghost use Rattle.refusals.specs.Refusals.{numbers};
 ghost use Rattle.refusals.specs.Numbered.{Gives, refusal_number};
+ghost use Rattle.refusals.specs.Words.{words};
 
 use std::fmt;
 
@@ -45,6 +46,8 @@ impl From<Refusal> for usize {
 
 // What is wrong, in words.
 impl fmt::Display for Refusal {
+    ghost output = { λ refusal. Some (words refusal) };
+
     fn fmt<W: fmt::Write>(&self, f: &mut fmt::Formatter<W>) -> fmt::Result {
         f.write_str(match self {
             Refusal::NoTokens => "no tokens",
@@ -64,7 +67,7 @@ impl fmt::Display for Refusal {
     }
 }
 
-// Every number, in the order of the table.
+// Every number, in the order of the table; each by the name of its refusal, since an enum does not list its cases.
 pub fn all() -> [usize; 11]
     ensures { result ≡ numbers }
 {

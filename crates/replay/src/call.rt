@@ -3,7 +3,7 @@ use attr_list::entries::Entry;
 use substitutions::Mode;
 
 // A reading of a list, whether a line is a block attribute list, or from_meta.
-#[derive(Clone, Copy)]
+#[derive(Clone, Copy, PartialEq, Eq)]
 pub(crate) enum Call {
     List(Entry),
     IsBlock,
@@ -11,13 +11,13 @@ pub(crate) enum Call {
 }
 
 // A number that names no call.
-#[derive(Clone, Copy)]
+#[derive(Clone, Copy, Debug, PartialEq, Eq)]
 pub(crate) struct NoCall;
 
 impl TryFrom<u64> for Call {
     type Error = NoCall;
 
-    // 0, which is what an empty line reads as, is a link's as well.
+    // Number by number, as compare/record writes them; 0, which is what an empty line reads as, is a link's as well.
     fn try_from(number: u64) -> Result<Self, NoCall> {
         match number {
             1 => Ok(Call::List(Entry::Block)),

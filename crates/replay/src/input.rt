@@ -8,10 +8,7 @@ use std::alloc::{AllocError, Global};
 fn digit(b: u8) -> Option<u64>
     ensures { IfSome result (λ d. d ≤ 9) }
 {
-    match b {
-        b'0'..=b'9' => Some(u64::from(b - b'0')),
-        _ => None,
-    }
+    char::from(b).to_digit(10).map(u64::from)
 }
 
 // The number that a text starts with, read no further than a u32 could need, and the text behind the byte that ends it.
@@ -36,21 +33,24 @@ pub(crate) fn u32_of(number: u64) -> u32 {
     (number & 0xffff_ffff) as u32
 }
 
-// The numbers of a text, one after the other.
+// The numbers of a text, one after the other, and what their arrays are made with.
 #[derive(Drop)]
-pub(crate) struct Numbers<'a>(pub(crate) &'a [u8]);
+pub(crate) struct Numbers<'a> {
+    pub(crate) alloc: Global,
+    pub(crate) text: &'a [u8],
+}
 
 impl Iterator for Numbers<'_> {
     type Item = u64;
 
-    ghost remaining = { λ s. at_most (length s.0.now) };
+    ghost remaining = { λ s. at_most (length s.text.now) };
 
     fn next(&mut self) -> Option<u64> {
-        if self.0.is_empty() {
+        if self.text.is_empty() {
             return None;
         }
-        let (number, rest) = first_number(self.0);
-        self.0 = rest;
+        let (number, rest) = first_number(self.text);
+        self.text = rest;
         Some(number)
     }
 }
@@ -64,7 +64,6 @@ impl Numbers<'_> {
     // An array: how many elements it has, how many of them are given, and these; the others are `other`. None where it has more than `most`.
     pub(crate) fn array<T: Copy, F: Fn(u64) -> T>(
         &mut self,
-        alloc: Global,
         most: usize,
         other: T,
         element: F,
@@ -73,7 +72,7 @@ impl Numbers<'_> {
     {
         let len = self.number() as usize;
         let given = self.number() as usize;
-        let mut elements = Vec::new(alloc);
+        let mut elements = Vec::new(self.alloc);
         for _ in 0..given.min(most) {
             elements.push(element(self.number()))?;
         }
@@ -85,12 +84,7 @@ impl Numbers<'_> {
     }
 
     // An array of bytes.
-    pub(crate) fn bytes(
-        &mut self,
-        alloc: Global,
-        most: usize,
-        other: u8,
-    ) -> Result<Option<Vec<u8>>, AllocError> {
-        self.array(alloc, most, other, byte_of)
+    pub(crate) fn bytes(&mut self, most: usize, other: u8) -> Result<Option<Vec<u8>>, AllocError> {
+        self.array(most, other, byte_of)
     }
 }

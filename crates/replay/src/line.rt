@@ -1,6 +1,7 @@
 // A recorded line of tokens.
 use crate::input::{Numbers, u32_of};
-use std::alloc::{AllocError, Global};
+use std::alloc::AllocError;
+use token::kind::TokenKind;
 
 // The most kinds, numbers of the pairs and bytes of the text: a few more than the library takes. A call with more is passed over.
 const MOST_KINDS: usize = 4100;
@@ -18,13 +19,10 @@ pub(crate) struct Line {
 }
 
 impl Line {
-    pub(crate) fn read(
-        alloc: Global,
-        numbers: &mut Numbers<'_>,
-    ) -> Result<Option<Line>, AllocError> {
-        let kinds = numbers.bytes(alloc, MOST_KINDS, 10)?;
-        let pairs = numbers.array(alloc, MOST_PAIRS, 0, u32_of)?;
-        let text = numbers.bytes(alloc, MOST_BYTES, b'a')?;
+    pub(crate) fn read(numbers: &mut Numbers<'_>) -> Result<Option<Line>, AllocError> {
+        let kinds = numbers.bytes(MOST_KINDS, u8::from(TokenKind::CloseBracket))?;
+        let pairs = numbers.array(MOST_PAIRS, 0, u32_of)?;
+        let text = numbers.bytes(MOST_BYTES, b'a')?;
         Ok(match (kinds, pairs, text) {
             (Some(kinds), Some(pairs), Some(text)) => Some(Line { kinds, pairs, text }),
             _ => None,

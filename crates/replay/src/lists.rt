@@ -5,6 +5,7 @@ use crate::line::Line;
 use attr_list::Read;
 use attr_list::entries::Entry;
 use refusals::Refusal;
+use row::WIDTH;
 use std::io;
 
 // The most numbers of the row buffer, a few more than the library takes. A call with more is passed over.
@@ -27,7 +28,7 @@ fn write_list(rt: &impl Print, answer: Result<Read, Refusal>, rows: &[u32]) -> i
         }
         Ok(read) => {
             print!(rt; "0 {} {}", read.rows, read.consumed)?;
-            rows.split_at(read.rows.saturating_mul(5).min(rows.len()))
+            rows.split_at(read.rows.saturating_mul(WIDTH).min(rows.len()))
         }
     };
     for number in written {
@@ -38,15 +39,15 @@ fn write_list(rt: &impl Print, answer: Result<Read, Refusal>, rows: &[u32]) -> i
 
 // A call of a reading: its line, and the length of its row buffer.
 pub(crate) fn replay_list(
-    rt: &(impl Print + AllocGlobal),
+    rt: &impl Print,
     numbers: &mut Numbers<'_>,
     entry: Entry,
 ) -> io::Result<()> {
-    let line = Line::read(rt.alloc(), numbers)?;
+    let line = Line::read(numbers)?;
     let room = numbers.number() as usize;
     match line {
         Some(line) if room <= MOST_ROWS => {
-            let mut rows = vec![in rt.alloc(); BEFORE; room]?;
+            let mut rows = vec![in numbers.alloc; BEFORE; room]?;
             let answer = library::parse(entry, &line, &mut rows);
             write_list(rt, answer, &rows)
         }
@@ -55,11 +56,8 @@ pub(crate) fn replay_list(
 }
 
 // A call that asks of its line whether it is a block attribute list.
-pub(crate) fn replay_is_block(
-    rt: &(impl Print + AllocGlobal),
-    numbers: &mut Numbers<'_>,
-) -> io::Result<()> {
-    let Some(line) = Line::read(rt.alloc(), numbers)? else {
+pub(crate) fn replay_is_block(rt: &impl Print, numbers: &mut Numbers<'_>) -> io::Result<()> {
+    let Some(line) = Line::read(numbers)? else {
         return Ok(());
     };
     match library::is_block(&line) {

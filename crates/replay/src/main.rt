@@ -14,9 +14,13 @@ use call::Call;
 use input::Numbers;
 use std::io::{self, Read};
 
-// Each call takes at least one byte, so there are no more calls than bytes.
+// Each call takes at least one byte, so there are no more calls than bytes. `while let Some(number) = numbers.next()` was tried: that it ends did not
+// close, since nothing says how much text is left after `array::from_fn`, whose calls read a set.
 fn replay(rt: &(impl Print + AllocGlobal), recorded: &[u8]) -> io::Result<()> {
-    let mut numbers = Numbers(recorded);
+    let mut numbers = Numbers {
+        alloc: rt.alloc(),
+        text: recorded,
+    };
     for _ in 0..recorded.len() {
         let Some(number) = numbers.next() else {
             break;

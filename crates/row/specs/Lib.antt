@@ -1,3 +1,4 @@
 pub mod Row
 pub mod Tag
 pub mod Diagnostic
+pub mod Words

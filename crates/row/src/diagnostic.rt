@@ -1,5 +1,7 @@
 // The diagnostics of a list. A row of one holds its number.
+ghost use Rattle.std.specs.Prelude.{Some};
 ghost use Rattle.row.specs.Diagnostic.{Decodes, Gives};
+ghost use Rattle.row.specs.Words.{words};
 
 use std::fmt;
 
@@ -20,7 +22,7 @@ impl From<Diagnostic> for usize {
     }
 }
 
-// A number that is no diagnostic's.
+// A number that is no diagnostic's. Its own type, as `NotATag` is.
 #[derive(Clone, Copy, Debug, PartialEq, Eq)]
 pub struct NotADiagnostic(pub u32);
 
@@ -29,6 +31,7 @@ impl TryFrom<u32> for Diagnostic {
 
     ghost try_from_gives = { Decodes };
 
+    // Case by case: no derive makes a diagnostic of a number.
     fn try_from(number: u32) -> Result<Self, NotADiagnostic> {
         match number {
             1 => Ok(Diagnostic::InvalidIdAttribute),
@@ -42,6 +45,8 @@ impl TryFrom<u32> for Diagnostic {
 
 // The words of document 01.
 impl fmt::Display for Diagnostic {
+    ghost output = { λ diagnostic. Some (words diagnostic) };
+
     fn fmt<W: fmt::Write>(&self, f: &mut fmt::Formatter<W>) -> fmt::Result {
         f.write_str(match self {
             Diagnostic::InvalidIdAttribute => "Invalid id attribute",

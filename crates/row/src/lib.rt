@@ -14,8 +14,9 @@ pub mod tag;
 // How many numbers a row has.
 pub const WIDTH: usize = 5;
 
-// A row: its tag, then two runs; an unused run is empty. That its numbers fit the buffer's is no fact of the type, since the rules make rows of any runs:
-// `Fits` stands in the contracts.
+// A row: its tag, then two runs; an unused run is empty. Two runs whatever the tag, and no enum that gives each tag its own: document 01 says of each tag
+// what the two runs of its row are, and the buffer has both. That its numbers fit the buffer's is no fact of the type, since the rules make rows of any
+// runs: `Fits` stands in the contracts.
 #[derive(Clone, Copy, Debug, PartialEq, Eq)]
 pub struct Row {
     pub tag: Tag,
@@ -49,7 +50,8 @@ impl Row {
         }
     }
 
-    // Writes it as row `at` of the buffer; every other number keeps what it had.
+    // Writes it as row `at` of the buffer; every other number keeps what it had. Number by number: as one array by `copy_from_slice`, which asks whether the
+    // two overlap, a line of commas took half as long again, and missed the bar of five times the Rust's speed.
     pub fn put(self, rows: &mut [u32], at: usize)
         requires { (width * at + width ≤ length rows.old) × Fits self }
         ensures { rows.new ≡ sets rows.old (width * at) (numbers self) }

@@ -24,7 +24,7 @@ impl From<Tag> for u32 {
     }
 }
 
-// A number that is no row's tag.
+// A number that is no row's tag. Its own type: it tells which conversion failed, and one for all would stand in a crate that all import, and say less.
 #[derive(Clone, Copy, Debug, PartialEq, Eq)]
 pub struct NotATag(pub u32);
 
@@ -33,6 +33,7 @@ impl TryFrom<u32> for Tag {
 
     ghost try_from_gives = { Decodes };
 
+    // Case by case: no derive makes a tag of a number.
     fn try_from(number: u32) -> Result<Self, NotATag> {
         match number {
             1 => Ok(Tag::EmptyPositional),
@@ -48,7 +49,7 @@ impl TryFrom<u32> for Tag {
     }
 }
 
-// Every tag, in the order of document 01.
+// Every tag, in the order of document 01; each by its name, since an enum does not list its cases.
 pub fn all() -> [u32; 8]
     ensures { result ≡ tags }
 {

@@ -1,4 +1,5 @@
 -- Places and the list of the tokens kept there: by these laws code on places meets definitions on lists.
+use Rattle.std.proofs.Math.Nat.{suc-ne-zero}
 use Prim.Native.Nat.{ℕ, zero, suc, ◌+◌, ◌-◌, ◌≤◌, ◌<◌}
 use native.Mathlib.Omega.{arith}
 use Rattle.std.proofs.Math.Numerals.{add-one}
@@ -51,7 +52,7 @@ module _ (p : Token → Bool) where
   onward-later x xs = go (p x)
     where
       go : (b : Bool) → cond b (x ∷ xs) (onward p xs) ≡ [] → (b ≡ false) × (onward p xs ≡ [])
-      go true e = absurd (let z : ◌≡◌ {A = ℕ} 0 1 = cc in omega arith)
+      go true e = absurd (suc-ne-zero 0 cc)
       go false e = (refl, e)
 
   pub onward-append : (xs ys : List Token) → onward p xs ≡ [] → onward p (xs ++ ys) ≡ onward p ys
@@ -300,7 +301,7 @@ module _ (l : Line) (from to : ℕ) (w : Ends l.kinds from to) where
       go : (b : ℕ) → to - (from + 1) ≡ b → from + 1 < to
       go zero f =
           let s : quoted (kept l from to) ≡ false = quoted-short (omega arith) in
-          absurd (let z : ◌≡◌ {A = ℕ} 0 1 = cc in omega arith)
+          absurd (suc-ne-zero 0 cc)
       go (suc b) f = omega arith
 
   pub unquote-ends : quoted (kept l from to) ≡ true → kept l (from + 1) (to - 1) ≡ unquote (kept l from to)

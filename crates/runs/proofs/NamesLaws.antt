@@ -24,6 +24,10 @@ module _ (kinds text pairs : List ℕ) (w : Lent kinds text pairs) (p : ℕ) (lt
   pub one-is : of_one (token_at (line_of kinds text pairs) p) ≡ eqb (get_or pairs (2 * p + 1) 0) 1
   one-is = ap (λ (n : ℕ). eqb n 1) lexeme-length
 
+  -- the same by a number that is its length
+  pub one-long : (n : ℕ) → n ≡ get_or pairs (2 * p + 1) 0 → of_one (token_at (line_of kinds text pairs) p) ≡ eqb n 1
+  one-long n e = one-is ∙ ap (λ (m : ℕ). eqb m 1) (sym e)
+
   pub lexeme-one : get_or pairs (2 * p + 1) 0 ≡ 1 → (token_at (line_of kinds text pairs) p).lexeme ≡ get_or text (get_or pairs (2 * p) 0) 0 ∷ []
   unfolding token_at
   lexeme-one e =

@@ -1,5 +1,6 @@
 -- The loops that compare names.
-use Prim.Native.Nat.{ℕ, ◌+◌, ◌*◌, ◌≤◌, ◌<◌}
+use Rattle.std.proofs.Math.Nat.{suc-ne-zero}
+use Prim.Native.Nat.{ℕ, ◌+◌, ◌≤◌, ◌<◌}
 use native.Mathlib.Omega.{arith}
 use mathlib.Core.Bool.{Bool, true, false, ◌&&◌, ◌||◌}
 use mathlib.Core.Logic.{inl, inr}
@@ -7,13 +8,12 @@ use Rattle.runs.proofs.Ranges.{passed}
 use mathlib.Core.Path.{◌≡◌, refl, sym, ap, subst, ◌∙◌}
 use mathlib.Core.List.{List, [], ◌∷◌, ◌++◌}
 use lib.Dec.{eqb}
-use lib.ListN.{length, get_or, take, drop, drop_of_length-le}
-use lib.Seq.{drop-cons}
-use native.Mathlib.Numerals.{add-one}
-use borrow.Author.Tests.{eq-eqb, ne_eqb}
+use lib.ListN.{length, get_or, drop}
 use Rattle.token.specs.Kind.{attr_ref, whitespace}
 use Rattle.token.specs.Line.{Line, Token, line_of, token_at}
 use Rattle.runs.specs.Run.{kept, is_whitespace, without}
+use Rattle.std.proofs.lemmas.Bool.{and_parts}
+use Rattle.std.specs.List.{list_all, zip}
 use Rattle.std.specs.Prelude.{Option, None, Some}
 use Rattle.std.specs.Option.{option_copied}
 use denote.Bor.{Bor}
@@ -23,30 +23,20 @@ use Rattle.runs.proofs.NamesLaws.{same_bytes-append, same_bytes-none}
 
 -- ---- `starts_with`
 
-module _ (xs ys : List ℕ) (i : ℕ) where
-  pub prefix-step : i < length xs → i < length ys → get_or xs i 0 ≡ get_or ys i 0 → prefix (drop i xs) (drop i ys) ≡ prefix (drop (i + 1) xs) (drop (i + 1) ys)
-  unfolding prefix
-  prefix-step a b e = rw (add-one i, drop-cons xs i 0 a, drop-cons ys i 0 b, eq-eqb (get_or xs i 0) (get_or ys i 0) e)
-
-  pub prefix-differs : i < length xs → i < length ys → (get_or xs i 0 ≡ get_or ys i 0 → ⊥) → prefix (drop i xs) (drop i ys) ≡ false
-  unfolding prefix
-  prefix-differs a b e = rw (drop-cons xs i 0 a, drop-cons ys i 0 b, ne_eqb (get_or xs i 0) (get_or ys i 0) e)
-
-  pub prefix-end : length xs ≤ i → prefix (drop i xs) (drop i ys) ≡ true
-  unfolding prefix
-  prefix-end a = rw (drop_of_length-le xs a)
+-- byte beside byte, of a name that is no shorter
+pub prefix-zip : (xs ys : List ℕ) → length xs ≤ length ys → list_all (λ (p : ℕ × ℕ). eqb p.0 p.1) (zip xs ys) ≡ prefix xs ys
+unfolding prefix
+prefix-zip [] ys h = refl
+prefix-zip (x ∷ xs) [] h = absurd (omega arith)
+prefix-zip (x ∷ xs) (y ∷ ys) h = rw (prefix-zip xs ys (omega arith)) refl
 
 pub prefix-length : (xs ys : List ℕ) → prefix xs ys ≡ true → length xs ≤ length ys
 unfolding prefix
 prefix-length [] ys e = omega arith
-prefix-length (x ∷ xs) [] e = absurd (let z : ◌≡◌ {A = ℕ} 0 1 = cc in omega arith)
+prefix-length (x ∷ xs) [] e = absurd (suc-ne-zero 0 cc)
 prefix-length (x ∷ xs) (y ∷ ys) e =
-    let h : length xs ≤ length ys = prefix-length xs ys (second (eqb x y) (prefix xs ys) e) in
+    let h : length xs ≤ length ys = prefix-length xs ys (and_parts (eqb x y) (prefix xs ys) e).1 in
     omega arith
-  where
-    second : (a b : Bool) → (a && b) ≡ true → b ≡ true
-    second true b e = e
-    second false b e = absurd (let z : ◌≡◌ {A = ℕ} 0 1 = cc in omega arith)
 
 -- a longer name is no beginning
 pub prefix-short : (xs ys : List ℕ) → length ys < length xs → false ≡ prefix xs ys
@@ -131,7 +121,3 @@ module _ (kinds text pairs : List ℕ) (from to : ℕ) (name : List ℕ) where
   unfolding without bytes
   naming-end i rest h w =
       sym (same_bytes-none rest) ∙ sym (ap (λ (ts : List Token). same_bytes (bytes (without is_whitespace ts)) rest) (kept-none (line_of kinds text pairs) i to h)) ∙ w.same
-
-pub lexeme-is : (kinds text pairs : List ℕ) (i : ℕ) → (token_at (line_of kinds text pairs) i).lexeme ≡ take (get_or pairs (2 * i + 1) 0) (drop (get_or pairs (2 * i) 0) text)
-unfolding token_at
-lexeme-is kinds text pairs i = refl

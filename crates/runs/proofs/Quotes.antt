@@ -1,11 +1,15 @@
 -- Quotes round a run.
 use Prim.Native.Nat.{ℕ, ◌+◌, ◌-◌, ◌≤◌, ◌<◌}
 use native.Mathlib.Omega.{arith}
-use mathlib.Core.Bool.{Bool, true, false, ◌||◌}
-use mathlib.Core.Path.{◌≡◌, refl, sym, ap, ◌∙◌}
+use mathlib.Core.Bool.{true, false, ◌||◌}
+use mathlib.Core.Path.{◌≡◌, sym, ap, ◌∙◌}
 use mathlib.Core.List.{List, []}
+use mathlib.Core.Logic.{inl, inr}
 use lib.Dec.{eqb}
 use lib.ListN.{get_or}
+use borrow.Author.Tests.{eqb-true, eqb-false}
+use Rattle.std.proofs.Math.Bool.{or-false}
+use Rattle.std.proofs.lemmas.Bool.{or_cases, or_parts}
 use Rattle.token.specs.declared.Run.{Run}
 use Rattle.token.specs.Kind.{double_quote, single_quote}
 use Rattle.token.specs.Line.{Line, line_of}
@@ -24,11 +28,7 @@ module _ (kinds : List ℕ) (a b : ℕ) (w : Ends kinds a b) where
     pub quotes-double : get_or kinds a 0 ≡ double_quote → eqb (get_or kinds (b - 1) 0) double_quote ≡ quoted (kept (line_of kinds text pairs) a b)
     unfolding l
     quotes-double e =
-        sym (quoted-long l a b w h ∙ rw (is-kind l a double_quote e, not-kind l a single_quote (λ f. omega (arith, e, f)), kind-is l (b - 1) double_quote) (or_no (eqb (get_or kinds (b - 1) 0) double_quote)))
-      where
-        or_no : (x : Bool) → (x || false) ≡ x
-        or_no true = refl
-        or_no false = refl
+        sym (quoted-long l a b w h ∙ rw (is-kind l a double_quote e, not-kind l a single_quote (λ f. omega (arith, e, f)), kind-is l (b - 1) double_quote) (or-false (eqb (get_or kinds (b - 1) 0) double_quote)))
 
     pub quotes-single : get_or kinds a 0 ≡ single_quote → eqb (get_or kinds (b - 1) 0) single_quote ≡ quoted (kept (line_of kinds text pairs) a b)
     unfolding l
@@ -38,6 +38,23 @@ module _ (kinds : List ℕ) (a b : ℕ) (w : Ends kinds a b) where
     pub quotes-other : (get_or kinds a 0 ≡ double_quote → ⊥) → (get_or kinds a 0 ≡ single_quote → ⊥) → false ≡ quoted (kept (line_of kinds text pairs) a b)
     unfolding l
     quotes-other e f = sym (quoted-long l a b w h ∙ rw (not-kind l a double_quote e, not-kind l a single_quote f))
+
+-- the same of a first token by the one question, whether it is a quote
+module _ (kinds : List ℕ) (a b : ℕ) (w : Ends kinds a b) (h : a + 1 < b) (text pairs : List ℕ) where
+  pub quotes-alike : (eqb (get_or kinds a 0) double_quote || eqb (get_or kinds a 0) single_quote) ≡ true → eqb (get_or kinds (b - 1) 0) (get_or kinds a 0) ≡ quoted (kept (line_of kinds text pairs) a b)
+  quotes-alike e = elim (or_cases (eqb (get_or kinds a 0) double_quote) (eqb (get_or kinds a 0) single_quote) e) [
+    | inl f ↦
+        let k = eqb-true (get_or kinds a 0) double_quote f in
+        ap (eqb (get_or kinds (b - 1) 0)) k ∙ quotes-double kinds a b w h text pairs k
+    | inr f ↦
+        let k = eqb-true (get_or kinds a 0) single_quote f in
+        ap (eqb (get_or kinds (b - 1) 0)) k ∙ quotes-single kinds a b w h text pairs k
+  ]
+
+  pub quotes_none : (eqb (get_or kinds a 0) double_quote || eqb (get_or kinds a 0) single_quote) ≡ false → false ≡ quoted (kept (line_of kinds text pairs) a b)
+  quotes_none e =
+      let p = or_parts (eqb (get_or kinds a 0) double_quote) (eqb (get_or kinds a 0) single_quote) e in
+      quotes-other kinds a b w h text pairs (eqb-false _ _ p.0) (eqb-false _ _ p.1)
 
 -- the run r of the tokens kept from..to is in quotes, and s is the run of the tokens between them
 module _ (kinds : List ℕ) (from to : ℕ) (r : Run) (w : Part all kinds from to r) where

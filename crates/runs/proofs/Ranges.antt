@@ -4,18 +4,22 @@ use native.Mathlib.Omega.{arith}
 use native.Mathlib.Decide.{dec_lt}
 use mathlib.Core.Bool.{Bool, true, false, ◌||◌}
 use mathlib.Core.Path.{◌≡◌, refl, sym, ap, subst, ◌∙◌}
-use mathlib.Core.List.{List, [], ◌∷◌, ◌++◌, append-nil}
+use mathlib.Core.List.{List, [], ◌++◌, append-nil}
 use mathlib.Core.Logic.{◌⊎◌, inl, inr}
 use lib.Dec.{eqb}
 use lib.ListN.{length, get_or, length-append}
 use borrow.Author.Tests.{eqb-true, eqb-false, lt-ltb, le-ltb}
+use Rattle.std.proofs.lemmas.Bool.{or_cases, or_parts}
+use Rattle.std.proofs.lemmas.List.{nil_from_length}
 use Rattle.token.specs.declared.Run.{Run}
 use Rattle.token.specs.Kind.{attr_ref, whitespace}
 use Rattle.token.specs.Line.{Line, Token, line_of, token_at, run, empty_run}
-use Rattle.runs.specs.Run.{kept, trim_start, trim_end, trim, run_of, first_place, between}
-use Rattle.runs.specs.Places.{Ends, all, Narrowed, StartsAt, EndsAt, Part}
-use Rattle.runs.proofs.KeptLaws.{is-kind, not-kind, kept-none, kept-first, kept-skip, kept-last, kept-last-skip, kept-split, trim_start-space, trim_start-stop, trim_end-space, trim_end-stop}
-use Rattle.runs.proofs.PlacesLaws.{starts-place, run-here, run-empty}
+use Rattle.runs.specs.Run.{kept, trim_start, trim_end, trim, run_of, between}
+use Rattle.runs.specs.declared.places.Places as read
+use Rattle.runs.specs.Kept.{OfKept}
+use Rattle.runs.specs.Places.{Ends, all, Narrowed, StartsAt, EndsAt, Part, FoundAt}
+use Rattle.runs.proofs.KeptLaws.{is-kind, not-kind, kept-none, kept-first, kept-skip, kept-last, kept-last-skip, kept-split, trim_start-none, trim_start-space, trim_start-stop, trim_end-space, trim_end-stop}
+use Rattle.runs.proofs.PlacesLaws.{run-here, run-empty}
 
 -- ---- from the left: what is left of from..to at i has the same f
 
@@ -39,21 +43,20 @@ module _ (f : List Token → List Token) (kinds : List ℕ) (from to : ℕ) wher
   pub left_end : (i : ℕ) → to ≤ i → f [] ≡ [] → Left f kinds from to i → StartsAt f kinds from to i
   left_end i h g w = left-done i (λ text pairs. ap f (kept-none (line_of kinds text pairs) i to h) ∙ g ∙ sym (kept-none (line_of kinds text pairs) i to h)) (λ lt. absurd (omega arith)) w
 
--- the place of the first kept token, given by the equation alone, is where what is kept of from..to starts
-module _ (kinds : List ℕ) (from to r : ℕ) (p : (text pairs : List ℕ) → r ≡ first_place to (kept (line_of kinds text pairs) from to)) where
-  first-at : (i : ℕ) → StartsAt all kinds from to i → StartsAt all kinds from to r
-  first-at i w = subst (λ (n : ℕ). StartsAt all kinds from to n) (starts-place all kinds from to i w [] [] ∙ sym (p [] [])) w
-
-  first-left : (n i : ℕ) → to - i ≡ n → Left all kinds from to i → StartsAt all kinds from to r
-  first-left zero i e w = first-at i (left_end all kinds from to i (omega arith) refl w)
-  first-left (suc n) i e w = go (eqb (get_or kinds i 0) attr_ref) refl (λ v. first-left n (i + 1) (omega arith) v)
-    where
-      go : (b : Bool) → eqb (get_or kinds i 0) attr_ref ≡ b → (Left all kinds from to (i + 1) → StartsAt all kinds from to r) → StartsAt all kinds from to r
-      go true f on = on (left-skip all kinds from to i (omega arith) (eqb-true _ _ f) w)
-      go false f on = first-at i (left-done all kinds from to i (λ text pairs. refl) (λ lt. eqb-false _ _ f) w)
-
-  pub first-starts : from ≤ to → StartsAt all kinds from to r
-  first-starts h = first-left (to - from) from refl (left-start all kinds from to h)
+-- what holds at `from`, and at the next place wherever it holds at one before r, holds at r
+pub walk : (P : ℕ → Type 0) (from r : ℕ) → from ≤ r → P from → ((i : ℕ) → from ≤ i → i < r → P i → P (i + 1)) → P r
+walk P from zero h p on =
+    let e : from ≡ zero = omega arith in
+    subst P e p
+walk P from (suc r) h p on = go (dec_lt r from) (λ g. walk P from r g p (λ i low high. on i low (omega arith)))
+  where
+    go : Dec (r < from) → (from ≤ r → P r) → P (suc r)
+    go (yes lt) before =
+        let e : from ≡ suc r = omega arith in
+        subst P e p
+    go (no ge) before =
+        let e : r + 1 ≡ suc r = omega arith in
+        subst P e (on r (omega arith) (omega arith) (before (omega arith)))
 
 -- ---- token by token: what is read of from..to when the next kept token is at `at`, and `past` is past the last one that was read
 
@@ -64,20 +67,29 @@ pub record Reading (kinds : List ℕ) (from to at past : ℕ) : Type 0 where
   pub read : EndsAt all kinds from at past
 
 module _ (kinds : List ℕ) (from to : ℕ) where
-  pub reading-start : from ≤ to → (from < to → get_or kinds from 0 ≡ attr_ref → ⊥) → Reading kinds from to from from
-  reading-start h e =
-      record { low = omega arith; high = h; here = e; read = record { part = record { low = omega arith; mid = omega arith; high = omega arith; same = λ text pairs. refl }; last = λ lt. absurd (omega arith) } }
-
   -- between a kept token and the next nothing is kept
   none_between : (l : Line) (at next : ℕ) → at ≤ next → next ≤ to → kept l next to ≡ kept l at to → kept l at next ≡ []
   none_between l at next a b e =
       let parts : length (kept l at to) ≡ length (kept l at next) + length (kept l next to) = ap length (kept-split l at to next a b) ∙ length-append (kept l at next) (kept l next to) in
       let same : length (kept l next to) ≡ length (kept l at to) = ap length e in
-      none (kept l at next) (omega (arith, parts, same))
-    where
-      none : (ts : List Token) → length ts ≡ 0 → ts ≡ []
-      none [] z = refl
-      none (t ∷ ts) z = absurd (omega (arith, z))
+      nil_from_length (kept l at next) (omega (arith, parts, same))
+
+  pub reading-start : (at : ℕ) → StartsAt all kinds from to at → Reading kinds from to at from
+  reading-start at w =
+      record {
+        low = w.part.low;
+        high = w.part.mid;
+        here = w.first;
+        read = record {
+          part = record {
+            low = omega arith;
+            mid = omega arith;
+            high = w.part.low;
+            same = λ text pairs. kept-none (line_of kinds text pairs) from from (omega arith) ∙ sym (none_between (line_of kinds text pairs) from at w.part.low w.part.mid (w.part.same text pairs));
+          };
+          last = λ lt. absurd (omega (arith, lt));
+        };
+      }
 
   pub reading-next : (at past next : ℕ) → Reading kinds from to at past → at < to → StartsAt all kinds (at + 1) to next → Reading kinds from to next (at + 1)
   reading-next at past next w h v =
@@ -164,20 +176,13 @@ module _ (kinds : List ℕ) (from to i : ℕ) (h : from < i) (shut : get_or kind
 
 module _ (k : ℕ) where
   pub passed : (eqb k attr_ref || eqb k whitespace) ≡ true → (k ≡ attr_ref) ⊎ ((k ≡ attr_ref → ⊥) × (k ≡ whitespace))
-  passed e = go (eqb k attr_ref) (eqb k whitespace) refl refl e
-    where
-      go : (a b : Bool) → eqb k attr_ref ≡ a → eqb k whitespace ≡ b → (a || b) ≡ true → (k ≡ attr_ref) ⊎ ((k ≡ attr_ref → ⊥) × (k ≡ whitespace))
-      go true b f g h = inl (eqb-true _ _ f)
-      go false true f g h = inr (eqb-false _ _ f, eqb-true _ _ g)
-      go false false f g h = absurd (let z : ◌≡◌ {A = ℕ} 0 1 = cc in omega arith)
+  passed e = elim (or_cases (eqb k attr_ref) (eqb k whitespace) e) [
+    | inl f ↦ inl (eqb-true k attr_ref f)
+    | inr f ↦ let w = eqb-true k whitespace f in inr (λ z. omega (arith, w, z), w)
+  ]
 
   pub stopped : (eqb k attr_ref || eqb k whitespace) ≡ false → (k ≡ attr_ref → ⊥) × (k ≡ whitespace → ⊥)
-  stopped e = go (eqb k attr_ref) (eqb k whitespace) refl refl e
-    where
-      go : (a b : Bool) → eqb k attr_ref ≡ a → eqb k whitespace ≡ b → (a || b) ≡ false → (k ≡ attr_ref → ⊥) × (k ≡ whitespace → ⊥)
-      go true b f g h = absurd (let z : ◌≡◌ {A = ℕ} 0 1 = cc in omega arith)
-      go false true f g h = absurd (let z : ◌≡◌ {A = ℕ} 0 1 = cc in omega arith)
-      go false false f g h = (eqb-false _ _ f, eqb-false _ _ g)
+  stopped e = let p = or_parts (eqb k attr_ref) (eqb k whitespace) e in (eqb-false k attr_ref p.0, eqb-false k whitespace p.1)
 
 module _ (kinds : List ℕ) (from to i : ℕ) where
   pub left-passed : i < to → (eqb (get_or kinds i 0) attr_ref || eqb (get_or kinds i 0) whitespace) ≡ true → Left trim_start kinds from to i → Left trim_start kinds from to (i + 1)
@@ -186,6 +191,17 @@ module _ (kinds : List ℕ) (from to i : ℕ) where
   pub right-passed : from < i → (eqb (get_or kinds (i - 1) 0) attr_ref || eqb (get_or kinds (i - 1) 0) whitespace) ≡ true → Right trim_end kinds from to i → Right trim_end kinds from to (i - 1)
   right-passed h e w = elim (passed (get_or kinds (i - 1) 0) e) [ inl f ↦ right-skip trim_end kinds from to i h f w | inr f ↦ right-space kinds from to i h f.0 w f.1 ]
 
+-- the first place whose token is no part of a trimmed start, where each token before is passed
+pub starts-first : (kinds : List ℕ) (from to r : ℕ) → from ≤ r → r ≤ to → ((i : ℕ) → from ≤ i → i < r → (eqb (get_or kinds i 0) attr_ref || eqb (get_or kinds i 0) whitespace) ≡ true) → (r < to → (eqb (get_or kinds r 0) attr_ref || eqb (get_or kinds r 0) whitespace) ≡ false) → StartsAt trim_start kinds from to r
+starts-first kinds from to r low high before here = go (dec_lt r to)
+  where
+    left : Left trim_start kinds from to r
+    left = walk (Left trim_start kinds from to) from r low (left-start trim_start kinds from to (omega arith)) (λ i l h w. left-passed kinds from to i (omega arith) (before i l h) w)
+
+    go : Dec (r < to) → StartsAt trim_start kinds from to r
+    go (yes h) = let s = stopped _ (here h) in left_word kinds from to r h s.0 left s.1
+    go (no h) = left_end trim_start kinds from to r (omega arith) trim_start-none left
+
 -- ---- the same of other kinds and another end that are equal to these
 
 pub starts-over : {f : List Token → List Token} {ks ls : List ℕ} {from to end r : ℕ} → ks ≡ ls → to ≡ end → StartsAt f ks from to r → StartsAt f ls from end r
@@ -193,6 +209,21 @@ starts-over {f = f} {ks = ks} {from = from} {end = end} {r = r} e g w = subst (�
 
 pub ends-over : {f : List Token → List Token} {ks ls : List ℕ} {from to end s : ℕ} → ks ≡ ls → to ≡ end → EndsAt f ks from to s → EndsAt f ls from end s
 ends-over {f = f} {ks = ks} {from = from} {end = end} {s = s} e g w = subst (λ (xs : List ℕ). EndsAt f xs from end s) e (subst (λ (n : ℕ). EndsAt f ks from n s) g w)
+
+-- ---- what is so of places is so of those that they are equal to
+
+module _ {p q : read.Places} (e : p ≡ q) where
+  pub part-of : {f : List Token → List Token} {r : Run} → Part f p.kinds.now p.from.0 p.to.0 r → Part f q.kinds.now q.from.0 q.to.0 r
+  part-of {f = f} {r = r} w = subst (λ (x : read.Places). Part f x.kinds.now x.from.0 x.to.0 r) e w
+
+  pub starts-of : {f : List Token → List Token} {r : ℕ} → StartsAt f p.kinds.now p.from.0 p.to.0 r → StartsAt f q.kinds.now q.from.0 q.to.0 r
+  starts-of {f = f} {r = r} w = subst (λ (x : read.Places). StartsAt f x.kinds.now x.from.0 x.to.0 r) e w
+
+  pub found-of : {t : Token → Bool} {r : ℕ} → FoundAt t p.kinds.now p.from.0 p.to.0 r → FoundAt t q.kinds.now q.from.0 q.to.0 r
+  found-of {t = t} {r = r} w = subst (λ (x : read.Places). FoundAt t x.kinds.now x.from.0 x.to.0 r) e w
+
+  pub kept-of : {A : Type 0} {r : A} (f : List Token → A) → OfKept f p r → OfKept f q r
+  kept-of {r = r} f w = subst (λ (x : read.Places). OfKept f x r) e w
 
 -- ---- both: the run between a and b
 

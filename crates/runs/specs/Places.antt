@@ -1,7 +1,8 @@
 -- Where the tokens of an answer stand: what a caller may use of an answer about places from..to, and that the tokens there are f of the tokens kept
 -- from..to, whatever the line's text.
-use Rattle.std.specs.Prelude.{ℕ, ◌+◌, ◌-◌, ◌≤◌, ◌<◌, ◌≡◌, Bool, true, List, [], get_or}
+use Rattle.std.specs.Prelude.{ℕ, ◌+◌, ◌-◌, ◌≤◌, ◌<◌, ◌≡◌, Bool, true, false, List, [], get_or}
 use Rattle.token.specs.declared.Run.{Run}
+use Rattle.token.specs.declared.TokenPlace.{TokenPlace}
 use Rattle.token.specs.Kind.{attr_ref}
 use Rattle.token.specs.Line.{Line, Token, line_of, token_at}
 use Rattle.runs.specs.Run.{kept, up_to, onward, in_run}
@@ -52,3 +53,15 @@ pub record FoundAt (p : Token → Bool) (kinds : List ℕ) (from to r : ℕ) : T
   pub low : from ≤ r
   pub high : r ≤ to
   pub found : (text pairs : List ℕ) → FoundIn (line_of kinds text pairs) p from to r
+
+-- ---- the search for the first place of some sort
+
+abbrev pub place_at : ℕ → TokenPlace
+place_at i = record { 0 = i }
+
+-- r is the first of the places from..to of which `tells` says true, or `to` where it says false of each
+pub record FirstOf (tells : TokenPlace → Bool → Type 0) (from to r : ℕ) : Type 0 where
+  pub low : from ≤ r
+  pub high : r ≤ to
+  pub before : (i : ℕ) → from ≤ i → i < r → tells (place_at i) false
+  pub here : r < to → tells (place_at r) true

@@ -2,10 +2,11 @@
 #![tactic(auto)]
 
 ghost use Rattle.std.specs.Prelude.{◌≡◌, List, ℕ, ◌+◌, ◌-◌, ◌≤◌, ◌<◌, length, get_or, eqb, ◌||◌};
-ghost use Rattle.token.specs.Kind.{attr_ref, whitespace};
+ghost use Rattle.token.specs.Kind.{attr_ref, double_quote, single_quote, whitespace};
 ghost use Rattle.token.specs.Line.{line_of};
 ghost use Rattle.token.specs.KindNumber.{number_of};
-ghost use Rattle.runs.specs.Run.{of_kind, kept, trim_start, trim_end, trim, quoted, unquote, run_of, in_run, first_place, place_of_kind, between};
+ghost use Rattle.runs.specs.Run.{of_kind, trim_start, trim_end, trim, quoted, unquote, run_of, in_run, first_place, place_of_kind, between};
+ghost use Rattle.runs.specs.Kept.{OfKept};
 ghost use Rattle.runs.specs.Places.{Ends, all, StartsAt, EndsAt, Part, FoundAt};
 
 use places::Places;
@@ -29,6 +30,16 @@ fn run_between(from: TokenPlace, to: TokenPlace) -> Run
     Run::EMPTY
 }
 
+// Whether a token of this kind is a quote, double or single.
+pub fn is_quote(kind: u8) -> bool
+    ensures { result ≡ (eqb kind double_quote || eqb kind single_quote) }
+{
+    matches!(
+        TokenKind::try_from(kind),
+        Ok(TokenKind::DoubleQuote | TokenKind::SingleQuote)
+    )
+}
+
 // Whether a run's first and last token are two quotes of one kind.
 fn quotes_round(kinds: &[u8], r: Run) -> bool
     requires { (r.place.0 + r.count ≤ length kinds.now) × Ends kinds.now r.place.0 (r.place.0 + r.count) }
@@ -38,14 +49,7 @@ fn quotes_round(kinds: &[u8], r: Run) -> bool
         return false;
     }
     let first = kinds[r.place.0];
-    let last = kinds[r.place.0 + r.count - 1];
-    if first == TokenKind::DoubleQuote as u8 {
-        return last == TokenKind::DoubleQuote as u8;
-    }
-    if first == TokenKind::SingleQuote as u8 {
-        return last == TokenKind::SingleQuote as u8;
-    }
-    false
+    is_quote(first) && kinds[r.place.0 + r.count - 1] == first
 }
 
 // Whether a token of this kind is no part of a trimmed end: AttrRef and Whitespace.
@@ -61,15 +65,23 @@ pub(crate) fn is_passed(kind: u8) -> bool
 impl<'a> Places<'a> {
     // The place of the first kept token, or `to`.
     pub fn first_kept(self) -> TokenPlace
-        ensures place { (text pairs : List ℕ) → result.0 ≡ first_place self.entry.to.0 (kept (line_of self.entry.kinds.now text pairs) self.entry.from.0 self.entry.to.0) }
+        ensures place { OfKept (first_place self.entry.to.0) self.entry result.0 }
         ensures part { StartsAt all self.entry.kinds.now self.entry.from.0 self.entry.to.0 result.0 }
     {
-        for i in self.from.0..self.to.0 {
-            if self.kinds[i] != TokenKind::AttrRef as u8 {
-                return TokenPlace(i);
-            }
+        self.find(|p| self.kinds[p.0] != TokenKind::AttrRef as u8)
+    }
+
+    // The places from the first kept token on.
+    pub(crate) fn skip_attr_refs(self) -> Places<'a>
+        ensures kinds { result.kinds ≡ self.entry.kinds }
+        ensures start { StartsAt all self.entry.kinds.now self.entry.from.0 self.entry.to.0 result.from.0 }
+        ensures to { result.to ≡ self.entry.to }
+    {
+        Places {
+            kinds: self.kinds,
+            from: self.first_kept(),
+            to: self.to,
         }
-        self.to
     }
 
     // The places from the first kept token on that is not Whitespace.
@@ -78,23 +90,15 @@ impl<'a> Places<'a> {
         ensures start { StartsAt trim_start self.entry.kinds.now self.entry.from.0 self.entry.to.0 result.from.0 }
         ensures to { result.to ≡ self.entry.to }
     {
-        for i in self.from.0..self.to.0 {
-            if !is_passed(self.kinds[i]) {
-                return Places {
-                    kinds: self.kinds,
-                    from: TokenPlace(i),
-                    to: self.to,
-                };
-            }
-        }
         Places {
             kinds: self.kinds,
-            from: self.to,
+            from: self.find(|p| !is_passed(self.kinds[p.0])),
             to: self.to,
         }
     }
 
-    // The place past the last kept token that is not Whitespace, or `from`.
+    // The place past the last kept token that is not Whitespace, or `from`: `trim` cuts there. By places from the end: `rposition` over the slice gives an
+    // Option of a place in the slice, which is then to be moved by `from` and by one.
     fn trim_end(self) -> TokenPlace
         ensures { EndsAt trim_end self.entry.kinds.now self.entry.from.0 self.entry.to.0 result.0 }
     {
@@ -106,10 +110,9 @@ impl<'a> Places<'a> {
         self.from
     }
 
-    // The place past the last token kept, or `from` where there is none, of places of which the first is kept. Where the last place holds a kept token, as
-    // it does unless an AttrRef ends the run, it is the place past that one; else the run is read.
+    // The place past the last token kept, or `from` where there is none, since `run_of` cuts there. Where the last place holds a kept token, as it does unless
+    // an AttrRef ends the run, it is the place past that one; else the run is read.
     fn run_end(self) -> TokenPlace
-        requires { self.from.0 < self.to.0 → get_or self.kinds.now self.from.0 0 ≡ attr_ref → ⊥ }
         ensures { EndsAt all self.entry.kinds.now self.entry.from.0 self.entry.to.0 result.0 }
     {
         let end = self.to.0;
@@ -121,21 +124,16 @@ impl<'a> Places<'a> {
 
     // The run of the kept tokens.
     pub fn run_of(self) -> Run
-        ensures run { (text pairs : List ℕ) → result ≡ run_of (kept (line_of self.entry.kinds.now text pairs) self.entry.from.0 self.entry.to.0) }
+        ensures run { OfKept run_of self.entry result }
         ensures part { Part all self.entry.kinds.now self.entry.from.0 self.entry.to.0 result }
     {
-        let start = self.first_kept();
-        let rest = Places {
-            kinds: self.kinds,
-            from: start,
-            to: self.to,
-        };
-        run_between(start, rest.run_end())
+        let rest = self.skip_attr_refs();
+        run_between(rest.from, rest.run_end())
     }
 
     // The run of the kept tokens, less Whitespace at both ends.
     pub fn trim(self) -> Run
-        ensures run { (text pairs : List ℕ) → result ≡ run_of (trim (kept (line_of self.entry.kinds.now text pairs) self.entry.from.0 self.entry.to.0)) }
+        ensures run { OfKept (λ ts. run_of (trim ts)) self.entry result }
         ensures part { Part trim self.entry.kinds.now self.entry.from.0 self.entry.to.0 result }
     {
         let rest = self.trim_start();
@@ -144,14 +142,15 @@ impl<'a> Places<'a> {
 
     // Whether the first and last of the kept tokens are two quotes of one kind.
     pub fn quoted(self) -> bool
-        ensures { (text pairs : List ℕ) → result ≡ quoted (kept (line_of self.entry.kinds.now text pairs) self.entry.from.0 self.entry.to.0) }
+        ensures { OfKept quoted self.entry result }
     {
         quotes_round(self.kinds, self.run_of())
     }
 
-    // The run of the kept tokens, less two quotes of one kind round them.
+    // The run of the kept tokens, less two quotes of one kind round them. Inlined: a function of its own takes the places through memory.
+    #[inline(always)]
     pub fn unquote(self) -> Run
-        ensures run { (text pairs : List ℕ) → result ≡ run_of (unquote (kept (line_of self.entry.kinds.now text pairs) self.entry.from.0 self.entry.to.0)) }
+        ensures run { OfKept (λ ts. run_of (unquote ts)) self.entry result }
         ensures part { Part unquote self.entry.kinds.now self.entry.from.0 self.entry.to.0 result }
     {
         let r = self.run_of();
@@ -169,15 +168,10 @@ impl<'a> Places<'a> {
     // The place of the first kept token of a kind, or `to`.
     pub fn find_kind(self, kind: TokenKind) -> TokenPlace
         requires { number_of kind ≡ attr_ref → ⊥ }
-        ensures place { (text pairs : List ℕ) → result.0 ≡ place_of_kind (number_of kind) self.entry.to.0 (kept (line_of self.entry.kinds.now text pairs) self.entry.from.0 self.entry.to.0) }
+        ensures place { OfKept (place_of_kind (number_of kind) self.entry.to.0) self.entry result.0 }
         ensures found { FoundAt (of_kind (number_of kind)) self.entry.kinds.now self.entry.from.0 self.entry.to.0 result.0 }
     {
         let number = u8::from(kind);
-        for i in self.from.0..self.to.0 {
-            if self.kinds[i] == number {
-                return TokenPlace(i);
-            }
-        }
-        self.to
+        self.find(|p| self.kinds[p.0] == number)
     }
 }

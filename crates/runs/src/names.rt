@@ -8,24 +8,17 @@ ghost use Rattle.runs.specs.Names.{bytes, same_bytes, prefix, Stripped};
 use crate::is_passed;
 use crate::places::Tokens;
 use token::TokenPlace;
+use token::lent::Token;
 
-// Whether `name` begins with `start`.
+// Whether `name` begins with `start`. This and `strip_prefix` are the library's too, and were tried as that: a call for each name that is asked for, with
+// which the mix of docs/BENCHMARK.md took 1.3 times as long and missed the bar of five times the Rust's speed.
 fn starts_with(start: &[u8], name: &[u8]) -> bool
     ensures { result ≡ prefix start.now name.now }
 {
-    if name.len() < start.len() {
-        return false;
-    }
-    for i in 0..start.len() {
-        if start[i] != name[i] {
-            return false;
-        }
-    }
-    true
+    start.len() <= name.len() && start.iter().zip(name).all(|(a, b)| a == b)
 }
 
-// What is left of `name` behind `start`, if it begins with that. The library's `strip_prefix` was tried: it is a call for each name that is asked for,
-// and the four readings took a quarter longer.
+// What is left of `name` behind `start`, if it begins with that.
 fn strip_prefix<'a>(name: &'a [u8], start: &[u8]) -> Option<&'a [u8]>
     ensures { Stripped start.now name.now (option_copied result) }
 {
@@ -41,11 +34,16 @@ impl<'a> Tokens<'a> {
         ensures { result ≡ same_bytes (bytes (without is_whitespace (kept (line_in self.entry.line) self.entry.from.0 self.entry.to.0))) name.now }
     {
         let mut rest = name;
+        // By places: a lexeme is a token's, which is a line and a place.
         for i in self.from.0..self.to.0 {
             if is_passed(self.line.kinds[i]) {
                 continue;
             }
-            let Some(left) = strip_prefix(rest, self.line.lexeme(TokenPlace(i))) else {
+            let token = Token {
+                line: self.line,
+                place: TokenPlace(i),
+            };
+            let Some(left) = strip_prefix(rest, token.lexeme()) else {
                 return false;
             };
             rest = left;

@@ -1,6 +1,5 @@
 // A run read token by token, over kinds on loan. AttrRef tokens are stepped over.
-ghost use Rattle.std.specs.Prelude.{◌≡◌, ◌+◌, ◌<◌, get_or};
-ghost use Rattle.token.specs.Kind.{attr_ref};
+ghost use Rattle.std.specs.Prelude.{◌<◌};
 ghost use Rattle.runs.specs.Places.{all, EndsAt};
 ghost use Rattle.runs.specs.Stepping.{Stepped};
 
@@ -18,19 +17,15 @@ impl<'a> Places<'a> {
             from: TokenPlace(self.from.0 + 1),
             to: self.to,
         };
-        Places {
-            kinds: self.kinds,
-            from: rest.first_kept(),
-            to: self.to,
-        }
+        rest.skip_attr_refs()
     }
 
-    // The place past the last token kept, or `from` where there is none, of places of which the first is kept: their tokens are read one by one.
+    // The place past the last token kept, or `from` where there is none, since `run_of` cuts there: the tokens are read one by one, by the step that document 01
+    // names for this struct, so the loop is no `for`.
     pub(crate) fn past_last_kept(self) -> TokenPlace
-        requires { self.from.0 < self.to.0 → get_or self.kinds.now self.from.0 0 ≡ attr_ref → ⊥ }
         ensures { EndsAt all self.entry.kinds.now self.entry.from.0 self.entry.to.0 result.0 }
     {
-        let mut left = self;
+        let mut left = self.skip_attr_refs();
         let mut past = self.from;
         while left.from.0 < self.to.0 {
             past = TokenPlace(left.from.0 + 1);

@@ -1,18 +1,26 @@
 -- What the code of the moves and of the refusals returns is what the definitions say: one law for each way through.
-use Rattle.std.specs.Prelude.{ℕ, zero, suc, ◌+◌, ◌-◌, ◌≤◌, ◌<◌, ◌≡◌, refl, Bool, true, false, cond, ◌&&◌, List, [], ◌∷◌, eqb, length, Option, Some, None}
+use Rattle.std.specs.Prelude.{ℕ, zero, suc, ◌+◌, ◌-◌, ◌≤◌, ◌<◌, ◌≡◌, refl, Bool, true, false, cond, ◌&&◌, List, [], ◌∷◌, eqb, length, Option, Some, None, Result}
 use Rattle.std.proofs.Common.{sym, ◌∙◌, arith}
 use borrow.Author.Tests.{ne_eqb, eqb-true, lt-ltb, le-ltb}
+use Rattle.std.specs.Cmp.Lexicographic.{pointwise, same_text}
 use Rattle.std.specs.Option.{option_eq}
+use Rattle.std.specs.Result.{IsErrAnd}
+use Rattle.std.proofs.lemmas.Result.{err_from_is_err_and}
 use Rattle.refusals.specs.declared.Refusal.{Refusal}
-use Rattle.refusals.specs.declared.Refusal.TheVariants.{NoTokens, TooManyTokens, TextTooLong, PairsNotTwo, KindTooLarge, PairsNotInOrder, RowsTooShort, NoClosingBracket, SubsTextTooLong, SetNotHeld, SetNotSound}
 use Rattle.refusals.specs.Numbered.{number_of as refused_by}
+use Rattle.refusals.proofs.Laws.{number-some}
 use Rattle.refusals.specs.Refusals.{set_not_held, set_not_sound}
 use Rattle.substitutions.specs.declared.Substitutions.{Substitutions}
 use Rattle.substitutions.specs.declared.Mode.{Mode}
 use Rattle.substitutions.specs.declared.Mode.TheVariants.{Port, Sheet}
-use Rattle.substitutions.specs.Kinds.{flag_of, flagged}
+use Rattle.substitutions.specs.declared.Subs.{Subs}
+use Rattle.substitutions.specs.declared.Move.{Move}
+use Rattle.substitutions.specs.declared.Move.TheVariants.{Insert, Remove, Prepend}
+use Rattle.substitutions.specs.Order.{flags_of}
+use Rattle.substitutions.specs.Starting.{normal_set}
+use Rattle.substitutions.specs.Kinds.{number_of, flag_of, flagged}
 use Rattle.substitutions.specs.Held.{held, sound, empty}
-use Rattle.substitutions.specs.Moves.{set, filled, without, led, insert_of, remove_of, prepend_of, refusal_of, refused_with, answer}
+use Rattle.substitutions.specs.Moves.{set, filled, without, led, insert_of, remove_of, prepend_of, refusal_of, refused_with, answer, answer_of, moved, answered, insert_answer, remove_answer, prepend_answer}
 use Rattle.substitutions.proofs.KindsLaws.{and_left, and_right}
 use Rattle.substitutions.proofs.HeldLaws.{held-is, sound-is}
 use Rattle.substitutions.specs.Loops.{left, unclaimed_flags, few, normal_places, Leaves}
@@ -72,6 +80,22 @@ pub normal-left : (s : Substitutions) → length s.places ≡ 7 → s.flags ≡ 
 unfolding unclaimed_flags left empty flagged
 normal-left s seven e n = rw (e, normal-places s.places seven n) refl
 
+-- The same of the normal set as a whole.
+pub normal-set-left : (s : Substitutions) → s ≡ normal_set → 0 ≡ unclaimed_flags s
+unfolding unclaimed_flags left empty flagged flags_of
+normal-set-left s e = rw e refl
+
+-- The same of a set that is compared with the normal set.
+pub normal-same : (s t : Substitutions) → t ≡ normal_set → pointwise eqb s.places t.places && eqb s.flags t.flags ≡ true → 0 ≡ unclaimed_flags s
+unfolding unclaimed_flags left empty flagged flags_of
+normal-same s t n e =
+    let places = same_text s.places t.places (sym (and_left (pointwise eqb s.places t.places) (eqb s.flags t.flags) e)) in
+    rw (places, eqb-true s.flags t.flags (and_right (pointwise eqb s.places t.places) (eqb s.flags t.flags) e), n) refl
+
+-- The flags that the code has at hand, by those that the definition leaves.
+pub few-left : (f n : ℕ) (b : Bool) → f ≡ n → b ≡ few f → few n ≡ b
+few-left f n b e q = rw (sym e) (sym q)
+
 -- The refusals, by what is left over.
 module _ (s : Substitutions) (seven : length s.places ≡ 7) where
   pub refusal-10 : (m : Mode) → few (unclaimed_flags s) ≡ false → set_not_held ≡ refusal_of m s
@@ -105,20 +129,6 @@ accepted Sheet s e = by (held s) (sound s) e
     by true u q = refl
     by false u q = absurd (omega arith)
 
--- No refusal has the number 0.
-pub refused-nonzero : (e : Refusal) → refused_by e ≡ 0 → ⊥
-refused-nonzero NoTokens z = absurd (omega arith)
-refused-nonzero TooManyTokens z = absurd (omega arith)
-refused-nonzero TextTooLong z = absurd (omega arith)
-refused-nonzero PairsNotTwo z = absurd (omega arith)
-refused-nonzero KindTooLarge z = absurd (omega arith)
-refused-nonzero PairsNotInOrder z = absurd (omega arith)
-refused-nonzero RowsTooShort z = absurd (omega arith)
-refused-nonzero NoClosingBracket z = absurd (omega arith)
-refused-nonzero SubsTextTooLong z = absurd (omega arith)
-refused-nonzero SetNotHeld z = absurd (omega arith)
-refused-nonzero SetNotSound z = absurd (omega arith)
-
 -- The answers: a refusal with the set given, or what the move gives.
 pub refused : (n m : ℕ) (s moved : Substitutions) → n ≡ m → (n ≡ 0 → ⊥) → record { refusal = n; set = s } ≡ answer m s moved
 unfolding answer
@@ -137,7 +147,18 @@ moved_to m s t moved e q = rw (e, q)
 
 -- The outcomes: by them an answer is a refusal's number with the set given, or what the move gives.
 pub turned-away : (e : Refusal) (m : ℕ) (s moved : Substitutions) → refused_by e ≡ m → refused_with (refused_by e) s ≡ answer m s moved
-turned-away e m s moved q = refused (refused_by e) m s moved q (refused-nonzero e)
+turned-away e m s moved q = refused (refused_by e) m s moved q (λ z. absurd (omega (arith, number-some e, z)))
+
+-- A move that is made after the set's check.
+pub made : (how : Move) (m : Mode) (s : Substitutions) (k : Subs) → answer (refusal_of m s) s (moved m how (number_of k) s) ≡ answered how m s k
+unfolding insert_answer remove_answer prepend_answer
+made Insert m s k = refl
+made Remove m s k = refl
+made Prepend m s k = refl
+
+-- A refusal that `?` hands on is answered as the check that gave it would be.
+pub handed-on : (s : Substitutions) (r : Result Substitutions Refusal) (e : Refusal) → IsErrAnd r (λ x. x ≡ e) → answer_of s r ≡ refused_with (refused_by e) s
+handed-on s r e h = let p = err_from_is_err_and r h in rw (p.1, p.2) refl
 
 -- The moves, by the numbers that the code has at hand.
 insert-at : (s : Substitutions) (n k w : ℕ) (p : List ℕ) → flagged k s.flags ≡ false → p ≡ filled n k s.places → w ≡ flag_of k

@@ -7,12 +7,13 @@ use Rattle.std.proofs.Math.Numerals.{add-one}
 use borrow.Author.Tests.{eqb-true, eqb-false, leb-true, ltb-true, ltb-false, eq-eqb, ne_eqb, le-leb, lt-leb, lt-ltb}
 use Rattle.std.proofs.Math.Dec.{eqb-suc-zero}
 use Rattle.std.specs.List.{list_all}
+use Rattle.std.specs.Bool.{then_some}
 use Rattle.substitutions.specs.declared.Substitutions.{Substitutions}
 use Rattle.substitutions.specs.Kinds.{flag_of, flagged, one, sum}
 use Rattle.substitutions.specs.Held.{times, small, empty, packed, once, covered, spare, spares, held, sound}
 use Rattle.substitutions.proofs.KindsLaws.{and_left, and_right, and_both, bool_eq, each_at, each_all, sum_same, sum-add, one-le, bit, flags, cleared, few-is, none_is}
 use Rattle.substitutions.specs.Loops.{few}
-use Rattle.substitutions.specs.Loops.{left, unclaimed_flags, few}
+use Rattle.substitutions.specs.Loops.{left, unclaimed_flags, few, Leaves}
 
 -- No kind stands in more places than it has flags: no kind twice, and a flag for every kind placed.
 abbrev pub Within : ℕ → List ℕ → Type 0
@@ -293,9 +294,13 @@ unfolding left
 left_end l i f h = rw (drop_of_length-le l h)
 
 -- From an empty place on: all that is left if the rest is empty, as the test of each place tells.
-pub left-rest : (l : List ℕ) (i f : ℕ) (r s : Bool) → length l ≡ 7 → i < 7 → get_or l i 0 ≡ 0 → r ≡ list_all (λ p. eqb p 0) (take (7 - i) (drop i l)) → r ≡ s
-    → cond s f 255 ≡ left f (drop i l)
-left-rest l i f r s h lt z e q =
+pub left-rest : (l : List ℕ) (i f : ℕ) (r : Bool) → length l ≡ 7 → i < 7 → get_or l i 0 ≡ 0 → r ≡ list_all (λ p. eqb p 0) (take (7 - i) (drop i l))
+    → Leaves (then_some r f) (left f (drop i l))
+left-rest l i f r h lt z e =
     let m : length (drop i l) ≤ 7 - i = omega (arith, length-drop i l) in
-    let t : s ≡ empty (drop i l) = sym q ∙ e ∙ ap (λ (ps : List ℕ). list_all (λ p. eqb p 0) ps) (take_all (7 - i) (drop i l) m) ∙ empty_all (drop i l) in
-    ap (λ (b : Bool). cond b f 255) t ∙ sym (left-empty l i (omega arith) f z)
+    let t : r ≡ empty (drop i l) = e ∙ ap (λ (ps : List ℕ). list_all (λ p. eqb p 0) ps) (take_all (7 - i) (drop i l) m) ∙ empty_all (drop i l) in
+    by r (ap (λ (b : Bool). cond b f 255) t ∙ sym (left-empty l i (omega arith) f z))
+  where
+    by : (b : Bool) → cond b f 255 ≡ left f (drop i l) → Leaves (then_some b f) (left f (drop i l))
+    by true q = q
+    by false q = q

@@ -68,13 +68,13 @@ kind-named (suc (suc (suc (suc (suc (suc (suc (suc k)))))))) sub e =
 pub kind-none : (n : ℕ) (x : NotAKind) → kind_of n ≡ Err x → (n ≡ 0 → ⊥) → 7 < n
 unfolding kind_of
 kind-none zero x e z = absurd (z refl)
-kind-none (suc zero) x e z = let h : 1 ≡ 0 = ap number_or_0 e in absurd (omega (arith, h))
-kind-none (suc (suc zero)) x e z = let h : 2 ≡ 0 = ap number_or_0 e in absurd (omega (arith, h))
-kind-none (suc (suc (suc zero))) x e z = let h : 3 ≡ 0 = ap number_or_0 e in absurd (omega (arith, h))
-kind-none (suc (suc (suc (suc zero)))) x e z = let h : 4 ≡ 0 = ap number_or_0 e in absurd (omega (arith, h))
-kind-none (suc (suc (suc (suc (suc zero))))) x e z = let h : 5 ≡ 0 = ap number_or_0 e in absurd (omega (arith, h))
-kind-none (suc (suc (suc (suc (suc (suc zero)))))) x e z = let h : 6 ≡ 0 = ap number_or_0 e in absurd (omega (arith, h))
-kind-none (suc (suc (suc (suc (suc (suc (suc zero))))))) x e z = let h : 7 ≡ 0 = ap number_or_0 e in absurd (omega (arith, h))
+kind-none (suc zero) x e z = absurd cc
+kind-none (suc (suc zero)) x e z = absurd cc
+kind-none (suc (suc (suc zero))) x e z = absurd cc
+kind-none (suc (suc (suc (suc zero)))) x e z = absurd cc
+kind-none (suc (suc (suc (suc (suc zero))))) x e z = absurd cc
+kind-none (suc (suc (suc (suc (suc (suc zero)))))) x e z = absurd cc
+kind-none (suc (suc (suc (suc (suc (suc (suc zero))))))) x e z = absurd cc
 kind-none (suc (suc (suc (suc (suc (suc (suc (suc k)))))))) x e z = omega arith
 
 pub and_left : (a b : Bool) → a && b ≡ true → a ≡ true
@@ -201,6 +201,17 @@ flag-fits f k h a b e = ltb-true _ _ (rw e at (fits-at f k h a b))
 pub flag-within : (f k : ℕ) → f < 256 → 1 ≤ k → k ≤ 7 → flagged k f ≡ true → flag_of k ≤ f
 unfolding fits
 flag-within f k h a b e = leb-true _ _ (rw e at (fits-at f k h a b))
+
+-- The same of a kind: its flag can be added where it is clear, and taken off where it is set.
+pub kind-fits : (f : ℕ) (sub : Subs) → f < 256 → flagged (number_of sub) f ≡ false → f + flag_of (number_of sub) < 256
+kind-fits f sub h = flag-fits f (number_of sub) h (number-low sub) (number-high sub)
+
+-- That of a test and a flag that the code has at hand.
+pub kind-added : (f w : ℕ) (sub : Subs) (b : Bool) → f < 256 → b ≡ flagged (number_of sub) f → b ≡ false → w ≡ flag_of (number_of sub) → f + w < 256
+kind-added f w sub b h e n v = rw v (kind-fits f sub h (sym e ∙ n))
+
+pub kind-within : (f : ℕ) (sub : Subs) → f < 256 → flagged (number_of sub) f ≡ true → flag_of (number_of sub) ≤ f
+kind-within f sub h = flag-within f (number_of sub) h (number-low sub) (number-high sub)
 
 abbrev pub flags : ℕ → ℕ
 flags f = sum 7 (λ k. bit k f)

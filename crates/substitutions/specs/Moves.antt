@@ -52,6 +52,12 @@ remove_of k s = cond (flagged k s.flags) (set (without k s.places) (s.flags - fl
 unfoldable pub prepend_of : ℕ → Substitutions → Substitutions
 prepend_of k s = set (led k s.places) (cond (flagged k s.flags) s.flags (s.flags + flag_of k))
 
+-- What each move makes of a set.
+abbrev pub moved : Mode → Move → ℕ → Substitutions → Substitutions
+moved m Insert k s = insert_of (room m) k s
+moved m Prepend k s = prepend_of k s
+moved m Remove k s = remove_of k s
+
 -- The set is turned away with 10 exactly when it is not held, in sheet mode with 11 exactly when it is held but not sound.
 unfoldable pub refusal_of : Mode → Substitutions → ℕ
 refusal_of Port s = cond (held s) 0 set_not_held

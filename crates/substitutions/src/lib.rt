@@ -14,11 +14,11 @@ ghost use Rattle.substitutions.specs.Held.{held, sound};
 ghost use Rattle.substitutions.specs.Moves.{refusal_of, answer_of, insert_answer, remove_answer, prepend_answer, answered};
 ghost use Rattle.substitutions.specs.Loops.{unclaimed_flags, Leaves};
 
-use crate::rules::{at_most_one, is_normal, take_flags};
+use crate::rules::{at_most_one, take_flags};
 use refusals::Refusal;
 
 // Kinds 1 to 7, in this order.
-#[derive(Clone, Copy, PartialEq, Eq)]
+#[derive(Clone, Copy, Debug, PartialEq, Eq)]
 pub enum Subs {
     SpecialChars = 1,
     InlineFormatting,
@@ -29,8 +29,8 @@ pub enum Subs {
     Callouts,
 }
 
-// A number that names no kind.
-#[derive(Clone, Copy, PartialEq, Eq)]
+// A number that names no kind. Its own type: it tells which conversion failed.
+#[derive(Clone, Copy, Debug, PartialEq, Eq)]
 pub struct NotAKind(pub u8);
 
 impl From<Subs> for u8 {
@@ -41,6 +41,7 @@ impl From<Subs> for u8 {
     }
 }
 
+// The cases are listed: of the kit's derives none makes a `TryFrom`, and Rust has no cast from a number to an enum.
 impl TryFrom<u8> for Subs {
     type Error = NotAKind;
 
@@ -62,22 +63,23 @@ impl TryFrom<u8> for Subs {
 }
 
 // Port mode is the Rust's, with six places to insert into; sheet mode has seven.
-#[derive(Clone, Copy, PartialEq, Eq)]
+#[derive(Clone, Copy, Debug, PartialEq, Eq)]
 pub enum Mode {
     Port,
     Sheet,
 }
 
 // The three moves.
-#[derive(Clone, Copy, PartialEq, Eq)]
+#[derive(Clone, Copy, Debug, PartialEq, Eq)]
 pub enum Move {
     Insert,
     Remove,
     Prepend,
 }
 
+// Bare bytes and no `[Option<Subs>; 7]`: C reads the struct, and document 01 has seven places and a flag byte.
 #[repr(C)]
-#[derive(Clone, Copy, PartialEq, Eq)]
+#[derive(Clone, Copy, Debug, PartialEq, Eq)]
 pub struct Substitutions {
     pub places: [u8; 7],
     pub flags: u8,
@@ -86,7 +88,7 @@ pub struct Substitutions {
 // What C is handed: the number of the refusal and the set given, or 0 and the set that a move gives.
 // A struct and no `Result`, since C has to read it.
 #[repr(C)]
-#[derive(Clone, Copy, PartialEq, Eq)]
+#[derive(Clone, Copy, Debug, PartialEq, Eq)]
 pub struct SetAnswer {
     pub refusal: usize,
     pub set: Substitutions,
@@ -96,15 +98,14 @@ pub struct SetAnswer {
 fn unclaimed_flags(set: Substitutions) -> Option<u8>
     ensures { Leaves result (unclaimed_flags set) }
 {
-    let flags = set.flags;
-    if flags >= 128 {
+    if set.flags >= 128 {
         return None;
     }
-    // the set that most blocks have, known without a walk
-    if flags == 63 && is_normal(set.places) {
+    // the set that most blocks have, known without a walk: the compiler compares it as one number
+    if set == starting::normal() {
         return Some(0);
     }
-    take_flags(set.places, flags)
+    take_flags(set)
 }
 
 impl Substitutions {
@@ -127,7 +128,7 @@ impl Substitutions {
         unclaimed_flags(self) == Some(0)
     }
 
-    // 10 for a set that is not held, in sheet mode 11 for one that is held but not sound.
+    // `SetNotHeld` for a set that is not held, in sheet mode `SetNotSound` for one that is held but not sound.
     pub fn check(self, mode: Mode) -> Result<(), Refusal>
         ensures { refusal_number result ≡ refusal_of mode self }
     {
@@ -144,40 +145,36 @@ impl Substitutions {
         }
     }
 
-    // The moves in either mode: a refusal, or what the move gives.
+    // The moves in either mode: a refusal, or what the move gives. Three functions beside `make`: document 01 has the three moves by value, of
+    // which those on loan are thin calls.
     pub fn insert(self, mode: Mode, sub: Subs) -> Result<Substitutions, Refusal>
         ensures { answer_of self result ≡ insert_answer mode self sub }
     {
-        self.check(mode)?;
-        Ok(unchecked::insert(mode, self, sub))
+        self.make(Move::Insert, mode, sub)
     }
 
     pub fn remove(self, mode: Mode, sub: Subs) -> Result<Substitutions, Refusal>
         ensures { answer_of self result ≡ remove_answer mode self sub }
     {
-        self.check(mode)?;
-        Ok(unchecked::remove(self, sub))
+        self.make(Move::Remove, mode, sub)
     }
 
     pub fn prepend(self, mode: Mode, sub: Subs) -> Result<Substitutions, Refusal>
         ensures { answer_of self result ≡ prepend_answer mode self sub }
     {
-        self.check(mode)?;
-        Ok(unchecked::prepend(self, sub))
+        self.make(Move::Prepend, mode, sub)
     }
 
-    // The move that is asked for.
-    pub fn make(self, how: Move, mode: Mode, sub: Subs) -> Result<Substitutions, Refusal>
-        ensures { answer_of self result ≡ answered how mode self sub }
+    // The move that is asked for. Strategy and mode are two parameters and no struct, here, in `unchecked::make` and in `telfjost::sets::make`: whoever has one
+    // set and one move would make a value of the two only to take it apart again.
+    pub fn make(self, strategy: Move, mode: Mode, sub: Subs) -> Result<Substitutions, Refusal>
+        ensures { answer_of self result ≡ answered strategy mode self sub }
     {
-        match how {
-            Move::Insert => self.insert(mode, sub),
-            Move::Remove => self.remove(mode, sub),
-            Move::Prepend => self.prepend(mode, sub),
-        }
+        self.check(mode)?;
+        Ok(unchecked::make(strategy, mode, self, sub))
     }
 
-    // The answer of a call that was given this set: the one place where a refusal is made, its number and the set given.
+    // A move's outcome as C reads it: 0 and the set that the move gives, or the refusal's number and this set, which the call was given.
     pub fn answer(self, outcome: Result<Substitutions, Refusal>) -> SetAnswer
         ensures { result ≡ answer_of self outcome }
     {

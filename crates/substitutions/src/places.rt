@@ -1,19 +1,27 @@
 // The moves on the seven places alone.
-ghost use Rattle.std.specs.Prelude.{◌≡◌, ◌≤◌, ◌<◌};
+ghost use Rattle.std.specs.Prelude.{◌≡◌, ◌≤◌, ◌<◌, eqb, position};
+ghost use Rattle.substitutions.specs.Kinds.{number_of};
 ghost use Rattle.substitutions.specs.Moves.{filled, without, led};
 ghost use Rattle.substitutions.specs.Loops.{closed};
 
-// The first empty place among the first n is filled with k.
-pub(crate) fn fill(places: [u8; 7], n: usize, k: u8) -> [u8; 7]
+use crate::Subs;
+use std::mem;
+
+// The first of the places that has the byte.
+fn first_with(places: &[u8], byte: u8) -> Option<usize>
+    ensures { result ≡ position (λ p. eqb p byte) places.now }
+{
+    places.iter().position(|place| *place == byte)
+}
+
+// The first empty place among the first n is filled with the kind.
+pub(crate) fn fill(places: [u8; 7], n: usize, sub: Subs) -> [u8; 7]
     requires { n ≤ 7 }
-    ensures { result ≡ filled n k places }
+    ensures { result ≡ filled n (number_of sub) places }
 {
     let mut p = places;
-    for i in 0..n {
-        if p[i] == 0 {
-            p[i] = k;
-            return p;
-        }
+    if let Some(at) = first_with(&p[..n], 0) {
+        p[at] = u8::from(sub);
     }
     p
 }
@@ -29,30 +37,27 @@ pub(crate) fn close(places: [u8; 7], at: usize) -> [u8; 7]
     p
 }
 
-pub(crate) fn take_out(places: [u8; 7], k: u8) -> [u8; 7]
-    ensures { result ≡ without k places }
+pub(crate) fn take_out(places: [u8; 7], sub: Subs) -> [u8; 7]
+    ensures { result ≡ without (number_of sub) places }
 {
-    for i in 0..7 {
-        if places[i] == k {
-            return close(places, i);
-        }
+    match first_with(&places, u8::from(sub)) {
+        Some(at) => close(places, at),
+        None => places,
     }
-    places
 }
 
-// Each place takes what stood before it, up to where k stood.
-pub(crate) fn lead(places: [u8; 7], k: u8) -> [u8; 7]
-    ensures { result ≡ led k places }
+// Each place takes what stood before it, up to where the kind stood.
+pub(crate) fn lead(places: [u8; 7], sub: Subs) -> [u8; 7]
+    ensures { result ≡ led (number_of sub) places }
 {
+    let kind = u8::from(sub);
     let mut p = places;
-    let mut carried = k;
-    for i in 0..7 {
-        let here = p[i];
-        p[i] = carried;
-        if here == k {
-            return p;
+    let mut carried = kind;
+    for place in &mut p {
+        carried = mem::replace(place, carried);
+        if carried == kind {
+            break;
         }
-        carried = here;
     }
     p
 }

@@ -1,9 +1,9 @@
 // What decides whether a set is held.
 ghost use Rattle.std.specs.Prelude.{◌≡◌, ◌≤◌, ◌<◌, eqb};
 ghost use Rattle.std.specs.List.{list_all};
-ghost use Rattle.substitutions.specs.Loops.{few, left, Leaves, normal_places};
+ghost use Rattle.substitutions.specs.Loops.{few, left, Leaves};
 
-use crate::Subs;
+use crate::{Subs, Substitutions};
 
 // Whether all places are empty.
 fn all_empty(places: &[u8]) -> bool
@@ -12,37 +12,26 @@ fn all_empty(places: &[u8]) -> bool
     places.iter().all(|p| *p == 0)
 }
 
-// Whether the places are those of the normal set.
-#[tactic(auto, unfolding(crate::specs::Loops::normal_places))]
-pub(crate) fn is_normal(places: [u8; 7]) -> bool
-    ensures { result ≡ normal_places places }
+// Each place takes its kind's flag: the flags left, or none at a place that breaks a rule. Never inlined, since few sets need the walk.
+#[inline(never)]
+pub(crate) fn take_flags(set: Substitutions) -> Option<u8>
+    requires { set.flags < 128 }
+    ensures { Leaves result (left set.flags set.places) }
 {
-    places == [1, 2, 3, 4, 5, 6, 0]
-}
-
-// Each place takes its kind's flag: the flags left, or none at a place that breaks a rule.
-pub(crate) fn take_flags(places: [u8; 7], flags: u8) -> Option<u8>
-    requires { flags < 128 }
-    ensures { Leaves result (left flags places) }
-{
-    let mut f = flags;
-    for i in 0..7 {
-        let p = places[i];
-        if p == 0 {
-            return if all_empty(&places[i..]) {
-                Some(f)
-            } else {
-                None
-            };
+    let places = set.places;
+    let mut f = set.flags;
+    for (i, place) in places.iter().enumerate() {
+        if *place == 0 {
+            return all_empty(&places[i..]).then_some(f);
         }
-        let Ok(sub) = Subs::try_from(p) else {
+        let Ok(sub) = Subs::try_from(*place) else {
             return None;
         };
         if !sub.is_flagged(f) {
             return None;
         }
         let taken = sub.flag();
-        f = f - taken;
+        f -= taken;
     }
     Some(f)
 }

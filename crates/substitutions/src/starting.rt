@@ -1,4 +1,5 @@
-// The sets that the Rust starts a block with, as functions: a constant has no contract. Its `verbatim` is 1 and 7, while the text `verbatim` in port mode gives 1 and 4.
+// The sets that the Rust starts a block with, as functions: a constant has no contract. Their places and flags are written as the numbers that C reads.
+// Its `verbatim` is 1 and 7, while the text `verbatim` in port mode gives 1 and 4.
 ghost use Rattle.std.specs.Prelude.{◌≡◌};
 ghost use Rattle.substitutions.specs.Moves.{empty_set};
 ghost use Rattle.substitutions.specs.Starting.{normal_set, verbatim_set, attr_value_set, only_special_chars_set, all_set};

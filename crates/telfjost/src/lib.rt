@@ -33,8 +33,10 @@ impl From<Result<bool, Refusal>> for TelfjostBool {
 
     fn from(outcome: Result<bool, Refusal>) -> TelfjostBool {
         match outcome {
-            Ok(true) => TelfjostBool { refusal: 0, yes: 1 },
-            Ok(false) => TelfjostBool { refusal: 0, yes: 0 },
+            Ok(yes) => TelfjostBool {
+                refusal: 0,
+                yes: usize::from(yes),
+            },
             Err(refusal) => TelfjostBool {
                 refusal: usize::from(refusal),
                 yes: 0,

@@ -9,14 +9,14 @@ use refusals::number_or_0;
 use substitutions::{Mode, Move, SetAnswer, Subs, Substitutions};
 
 // A move of the kind that the number names. A number that names none is passed over: the set's own refusal, and the set given.
-fn make(how: Move, mode: Mode, set: Substitutions, kind: u8) -> SetAnswer
-    ensures { result ≡ by_number (answered how) mode set (kind_of kind) }
+fn make(strategy: Move, mode: Mode, set: Substitutions, kind: u8) -> SetAnswer
+    ensures { result ≡ by_number (answered strategy) mode set (kind_of kind) }
 {
-    let Ok(sub) = Subs::try_from(kind) else {
-        let refusal = number_or_0(set.check(mode));
-        return SetAnswer { refusal, set };
+    let outcome = match Subs::try_from(kind) {
+        Ok(sub) => set.make(strategy, mode, sub),
+        Err(_) => set.check(mode).map(|()| set),
     };
-    set.answer(set.make(how, mode, sub))
+    set.answer(outcome)
 }
 
 #[unsafe(no_mangle)]
@@ -79,10 +79,7 @@ pub extern "C" fn telfjost_set_refusal_sheet(set: Substitutions) -> usize
 pub extern "C" fn telfjost_contains(set: Substitutions, kind: u8) -> bool
     ensures { result ≡ contains_number set (kind_of kind) }
 {
-    match Subs::try_from(kind) {
-        Ok(sub) => set.contains(sub),
-        Err(_) => false,
-    }
+    Subs::try_from(kind).is_ok_and(|sub| set.contains(sub))
 }
 
 #[unsafe(no_mangle)]

@@ -1,2 +1,3 @@
 pub mod LineLaws
 pub mod Checks
+pub mod Matched

@@ -1,4 +1,5 @@
 -- Laws of the checks: what is known of a line that is not refused.
+use Rattle.std.proofs.Math.Nat.{suc-ne-zero}
 use Rattle.std.specs.Prelude.{ℕ, zero, suc, ◌+◌, ◌*◌, ◌≤◌, ◌<◌, Bool, true, false, not, ◌||◌, ◌≡◌, refl, List, [], ◌∷◌, eqb, ltb, length, get_or}
 use Rattle.std.proofs.Common.{arith, subst, eqb-true, le-ltb, ltb-true, ltb-false}
 use Rattle.std.proofs.lemmas.Bool.{not-false, eqb-false}
@@ -25,7 +26,7 @@ none_over (k ∷ ks) e (suc p) h = none_over ks (or-false (ltb largest k) (some_
 
 pub some-over : (ks : List ℕ) → some_over ks ≡ true → Over ks
 unfolding some_over
-some-over [] e = absurd (let z : ◌≡◌ {A = ℕ} 0 1 = cc in omega arith)
+some-over [] e = absurd (suc-ne-zero 0 cc)
 some-over (k ∷ ks) e = go (ltb largest k) refl e (λ f. some-over ks f)
   where
     go : (b : Bool) → ltb largest k ≡ b → (b || some_over ks) ≡ true → (some_over ks ≡ true → Over ks) → Over (k ∷ ks)

@@ -60,7 +60,7 @@ pub enum TokenKind {
     Word,
 }
 
-// A byte that is no kind's number.
+// A byte that is no kind's number. Its own type: it tells which conversion failed, and one for all would stand in a crate that all import, and say less.
 #[derive(Clone, Copy, Debug, PartialEq, Eq)]
 pub struct NotAKind(pub u8);
 
@@ -77,6 +77,7 @@ impl TryFrom<u8> for TokenKind {
 
     ghost try_from_gives = { Decodes };
 
+    // Case by case: no derive makes a kind of a number.
     fn try_from(number: u8) -> Result<Self, NotAKind> {
         match number {
             0 => Ok(TokenKind::Ampersand),
@@ -135,7 +136,7 @@ impl TryFrom<u8> for TokenKind {
     }
 }
 
-// Every kind, in the order of `TokenKind`.
+// Every kind, in the order of `TokenKind`; each by its name, since an enum does not list its cases.
 pub fn all() -> [u8; 51]
     ensures { result ≡ order }
 {

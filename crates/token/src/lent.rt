@@ -1,5 +1,5 @@
-// A line on loan that no check refuses.
-ghost use Rattle.std.specs.Prelude.{length};
+// A line on loan that no check refuses, and its tokens.
+ghost use Rattle.std.specs.Prelude.{◌<◌, length};
 ghost use Rattle.token.specs.Lent.{Lent};
 
 use super::line::{MOST_TOKENS, check_line, length_of, offset_of};
@@ -16,8 +16,6 @@ pub struct Line<'a> {
 }
 
 impl<'a> Line<'a> {
-    ghost use Rattle.std.specs.Prelude.{◌≡◌, ◌<◌};
-    ghost use Rattle.token.specs.Line.{offset_in, length_in, lexeme_in};
     ghost use Rattle.token.specs.Lent.{line};
     ghost use Rattle.token.specs.Checked.{Checked};
 
@@ -28,30 +26,47 @@ impl<'a> Line<'a> {
         check_line(kinds, text, pairs, MOST_TOKENS)?;
         Ok(Line { kinds, text, pairs })
     }
+}
 
-    // The byte offset of a token's lexeme.
-    fn offset_of(self, p: TokenPlace) -> ByteOffset
-        requires { p.0 < length self.kinds.now }
-        ensures { result.0 ≡ offset_in self.entry.pairs.now p.0 }
+// A token of a line.
+#[derive(Clone, Copy)]
+pub struct Token<'a> {
+    pub line: Line<'a>,
+    pub place: TokenPlace,
+    pub ghost within: { place.0 < length line.kinds.now },
+}
+
+impl<'a> Token<'a> {
+    ghost use Rattle.std.specs.Prelude.{◌≡◌};
+    ghost use Rattle.token.specs.Kind.{kind_at};
+    ghost use Rattle.token.specs.Line.{offset_in, length_in, lexeme_in};
+
+    // The number of its kind.
+    pub fn kind(self) -> u8
+        ensures { result ≡ kind_at self.entry.line.kinds.now self.entry.place.0 }
     {
-        offset_of(self.pairs, p)
+        self.line.kinds[self.place.0]
     }
 
-    // The length of a token's lexeme, in bytes.
-    pub fn length_of(self, p: TokenPlace) -> usize
-        requires { p.0 < length self.kinds.now }
-        ensures { result ≡ length_in self.entry.pairs.now p.0 }
+    // The byte offset of its lexeme.
+    fn offset(self) -> ByteOffset
+        ensures { result.0 ≡ offset_in self.entry.line.pairs.now self.entry.place.0 }
     {
-        length_of(self.pairs, p)
+        offset_of(self.line.pairs, self.place)
     }
 
-    // A token's lexeme.
-    pub fn lexeme(self, p: TokenPlace) -> &'a [u8]
-        requires { p.0 < length self.kinds.now }
-        ensures { result.now ≡ lexeme_in self.entry.text.now self.entry.pairs.now p.0 }
+    // The length of its lexeme, in bytes.
+    pub fn length(self) -> usize
+        ensures { result ≡ length_in self.entry.line.pairs.now self.entry.place.0 }
     {
-        let start = self.offset_of(p);
-        let end = start.0 + self.length_of(p);
-        &self.text[start.0..end]
+        length_of(self.line.pairs, self.place)
+    }
+
+    pub fn lexeme(self) -> &'a [u8]
+        ensures { result.now ≡ lexeme_in self.entry.line.text.now self.entry.line.pairs.now self.entry.place.0 }
+    {
+        let start = self.offset();
+        let end = start.0 + self.length();
+        &self.line.text[start.0..end]
     }
 }

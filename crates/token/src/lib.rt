@@ -13,7 +13,8 @@ pub struct TokenPlace(pub usize);
 #[derive(Clone, Copy, Debug, PartialEq, Eq)]
 pub struct ByteOffset(pub usize);
 
-// A run: the place of its first kept token, and how many places there are from it to its last. An empty run is 0, 0.
+// A run: the place of its first kept token, and how many places there are from it to its last. An empty run is 0, 0 and no
+// Option, as document 01 has it in the rows.
 #[derive(Clone, Copy, Debug, PartialEq, Eq)]
 pub struct Run {
     pub place: TokenPlace,

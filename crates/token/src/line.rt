@@ -23,7 +23,8 @@ pub fn limits() -> [usize; 2]
     [MOST_TOKENS, MOST_BYTES]
 }
 
-// The byte offset of a token's lexeme.
+// The byte offset of a token's lexeme. This and `length_of` ask of the pairs alone, `lent::Token` has the same of a checked line's token: to ask for a
+// checked line here would ask more of callers.
 pub fn offset_of(pairs: &[u32], p: TokenPlace) -> ByteOffset
     requires { 2 * p.0 + 1 < length pairs.now }
     ensures { result.0 ≡ offset_in pairs.now p.0 }
@@ -39,37 +40,30 @@ pub fn length_of(pairs: &[u32], p: TokenPlace) -> usize
     pairs[2 * p.0 + 1] as usize
 }
 
-// Whether some kind is over the largest.
+// Whether some kind is over the largest. Every kind is looked at, and none decides where to go on, so that the compiler takes sixteen at a time.
 fn some_over(kinds: &[u8]) -> bool
     ensures { result ≡ some_over kinds.now }
 {
-    kinds.iter().any(|k| *k > LARGEST)
+    kinds.iter().fold(false, |over, k| over | (*k > LARGEST))
 }
 
 // Whether some token starts before the previous ends, or ends past a text of `size` bytes. Where none does the first, no token ends after the last.
-fn some_misplaced(pairs: &[u32], tokens: usize, size: usize) -> bool
-    requires { length pairs.now ≡ 2 * tokens }
+fn some_misplaced(pairs: &[u32], size: usize) -> bool
     ensures { result ≡ misplaced size 0 pairs.now }
 {
     let mut end: usize = 0;
-    for i in 0..tokens {
-        let start = offset_of(pairs, TokenPlace(i));
-        let next = start.0 + length_of(pairs, TokenPlace(i));
-        if start.0 < end {
+    for [offset, length] in pairs.as_chunks::<2>().0 {
+        let start = *offset as usize;
+        if start < end {
             return true;
         }
-        end = next;
+        end = start + *length as usize;
     }
     size < end
 }
 
 // Why a line of at most `most` tokens is refused, if it is: the first check that applies.
-pub fn check_line<'a>(
-    kinds: &'a [u8],
-    text: &'a [u8],
-    pairs: &'a [u32],
-    most: usize,
-) -> Result<(), Refusal>
+pub fn check_line(kinds: &[u8], text: &[u8], pairs: &[u32], most: usize) -> Result<(), Refusal>
     ensures { refusal_number result ≡ refusal most (line kinds.entry text.entry pairs.entry) }
 {
     let tokens = kinds.len();
@@ -88,7 +82,7 @@ pub fn check_line<'a>(
     if some_over(kinds) {
         return Err(Refusal::KindTooLarge);
     }
-    if some_misplaced(pairs, tokens, text.len()) {
+    if some_misplaced(pairs, text.len()) {
         return Err(Refusal::PairsNotInOrder);
     }
     Ok(())

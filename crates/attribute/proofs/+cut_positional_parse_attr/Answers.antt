@@ -7,9 +7,10 @@ use Rattle.attr_ir.specs.declared.AttrIr.{AttrIr}
 use Rattle.attr_ir.specs.Places.{Bounded}
 use Rattle.put_rows.proofs.Outcomes.{told, told-as}
 use Rattle.attribute.specs.Outcome.{Cut}
-use Rattle.attribute.proofs.Runs.{of-run, to-run, trimmed-part, run-ir, symbol-found}
+use Rattle.attribute.proofs.Runs.{of-run, to-run, run-ir}
 use Rattle.attribute.proofs.Outcomes.{most-few}
 use Rattle.attribute.proofs.Whole.{whole-empty, whole-ir, whole-cut, whole-uncut, cut-some, cut-none, cut_later}
+use Rattle.runs.proofs.Ranges.{found-of, part-of}
 use Rattle.attribute.proofs.+cut_positional_parse_attr.Goals as goal
 
 -- ---- the cut
@@ -17,7 +18,7 @@ use Rattle.attribute.proofs.+cut_positional_parse_attr.Goals as goal
 pub cut_positional-returns-then-symbol-tokens : goal.cut_positional-returns-then-symbol-tokens
 cut_positional-returns-then-symbol-tokens t c =
     let a = c.args in
-    let found = symbol-found c.places.result _ c.places.ensures c.find_symbol-symbol.ensures in
+    let found = found-of c.places.ensures c.find_symbol-symbol.ensures in
     let put = c.put_diagnostic.ensures in
     let none = cut-none (line_in a.tokens.line) _ _ a.block a.written.id _ found c.requires.some c.if-symbol-tokens.true in
     told _ _ _ _ _ _ none _ put (omega (arith, put.wrote.count))
@@ -25,14 +26,14 @@ cut_positional-returns-then-symbol-tokens t c =
 pub cut_positional-parse_attr-requires : goal.cut_positional-parse_attr-requires
 cut_positional-parse_attr-requires t c =
     let a = c.args in
-    let found = symbol-found c.places.result _ c.places.ensures c.find_symbol-symbol.ensures in
+    let found = found-of c.places.ensures c.find_symbol-symbol.ensures in
     let put = c.put_positional-put.ensures a.tokens.line.text.now a.tokens.line.pairs.now in
     (omega (arith, c.decreases, found.low, found.high), omega (arith, c.requires.room, put.wrote.count, found.low, found.high))
 
 pub cut_positional-returns : goal.cut_positional-returns
 cut_positional-returns t c =
     let a = c.args in
-    let found = symbol-found c.places.result _ c.places.ensures c.find_symbol-symbol.ensures in
+    let found = found-of c.places.ensures c.find_symbol-symbol.ensures in
     let put = c.put_positional-put.ensures a.tokens.line.text.now a.tokens.line.pairs.now in
     cut_later (line_in a.tokens.line) _ _ a.block a.written.id _ found c.requires.some c.if-symbol-tokens.false c.requires.first _ _ _ _ put _ _ _ _ c.parse_attr.ensures (omega (arith, found.low, found.high))
 
@@ -41,7 +42,7 @@ cut_positional-returns t c =
 pub parse_attr-returns-then-trimmed-eq0 : goal.parse_attr-returns-then-trimmed-eq0
 parse_attr-returns-then-trimmed-eq0 t c =
     let a = c.args in
-    let part = trimmed-part c.places.result _ c.places.ensures c.trim-trimmed.ensures.part in
+    let part = part-of c.places.ensures c.trim-trimmed.ensures.part in
     let empty = whole-empty (line_in a.tokens.line) _ _ a.block a.written.id _ part c.if-trimmed-eq0.true in
     let put = c.put_empty.ensures in
     told _ _ _ _ _ _ empty _ put (omega (arith, put.wrote.count))
@@ -51,7 +52,7 @@ parse_attr-cut_positional-requires t c =
     let a = c.args in
     let s = c.trim-trimmed.result in
     let r = c.in-Some.run' in
-    let part = trimmed-part c.places.result _ c.places.ensures c.trim-trimmed.ensures.part in
+    let part = part-of c.places.ensures c.trim-trimmed.ensures.part in
     let i = run-ir c.in_run.result _ _ _ c.in_run.ensures c.attr_ir-ir.ensures in
     let in-run = subst (λ (x : AttrIr). Bounded a.tokens.line.kinds.now s.place.0 (s.place.0 + s.count) x) c.in-Some.ensures i.within in
     let some = cut-some (line_in a.tokens.line) _ _ a.block a.written.id _ part c.if-trimmed-eq0.false _ i.held r c.in-Some.ensures in
@@ -64,7 +65,7 @@ parse_attr-cut_positional-requires t c =
 pub parse_attr-put_ir-requires-clause-uncut : goal.parse_attr-put_ir-requires-clause-uncut
 parse_attr-put_ir-requires-clause-uncut t c =
     let a = c.args in
-    let part = trimmed-part c.places.result _ c.places.ensures c.trim-trimmed.ensures.part in
+    let part = part-of c.places.ensures c.trim-trimmed.ensures.part in
     let i = run-ir c.in_run.result _ _ _ c.in_run.ensures c.attr_ir-ir.ensures in
     whole-uncut (line_in a.tokens.line) _ _ a.block a.written.id _ part c.if-trimmed-eq0.false _ i.held i.answer i.within (omega (arith, part.within)) c.in-None.ensures
 
@@ -72,7 +73,7 @@ pub parse_attr-returns-in-Some : goal.parse_attr-returns-in-Some
 parse_attr-returns-in-Some t c =
     let a = c.args in
     let s = c.trim-trimmed.result in
-    let part = trimmed-part c.places.result _ c.places.ensures c.trim-trimmed.ensures.part in
+    let part = part-of c.places.ensures c.trim-trimmed.ensures.part in
     let i = run-ir c.in_run.result _ _ _ c.in_run.ensures c.attr_ir-ir.ensures in
     let in-run = subst (λ (x : AttrIr). Bounded a.tokens.line.kinds.now s.place.0 (s.place.0 + s.count) x) c.in-Some.ensures i.within in
     let cut = whole-cut (line_in a.tokens.line) _ _ a.block a.written.id _ part c.if-trimmed-eq0.false _ i.held c.in-Some.run' c.in-Some.ensures in
@@ -83,7 +84,7 @@ pub parse_attr-returns-in-None : goal.parse_attr-returns-in-None
 parse_attr-returns-in-None t c =
     let a = c.args in
     let s = c.trim-trimmed.result in
-    let part = trimmed-part c.places.result _ c.places.ensures c.trim-trimmed.ensures.part in
+    let part = part-of c.places.ensures c.trim-trimmed.ensures.part in
     let i = run-ir c.in_run.result _ _ _ c.in_run.ensures c.attr_ir-ir.ensures in
     let whole = whole-ir (line_in a.tokens.line) _ _ a.block a.written.id _ part c.if-trimmed-eq0.false _ i.held in
     let few = most-few a.tokens.line.kinds.now s.place.0 (s.place.0 + s.count) _ i.within in

@@ -1,14 +1,13 @@
 -- `put_ir` writes what each case of an attribute gives that is not cut. Assumes nothing.
 use Rattle.std.proofs.Common.{arith, refl, ◌-◌}
 use Rattle.token.specs.Kind.{comma, whitespace}
-use Rattle.token.specs.Line.{line_of}
 use Rattle.token.specs.Checked.{line_in}
 use Rattle.runs.specs.Run.{kept}
 use Rattle.row.specs.declared.tag.Tag.TheVariants as tag
 use Rattle.put_rows.specs.Rows.{split_rows}
 use Rattle.put_rows.specs.Written.{Outcome, Shorthanded}
+use Rattle.put_rows.proofs.GroupRows.{grouped-of}
 use Rattle.put_rows.proofs.Outcomes.{told-as}
-use Rattle.attr_ir.proofs.Values.{of-places}
 use Rattle.attribute.proofs.Runs.{of-run}
 use Rattle.attribute.proofs.Outcomes.{put-positional, put-named, put-plain, put-options, put-roles, put_id, put-shorthand}
 use Rattle.attribute.proofs.uncut.put_ir.Goals as goal
@@ -26,7 +25,7 @@ pub returns-in-Options : goal.returns-in-Options
 returns-in-Options c =
     let a = c.args in
     let t = c.in_run.result in
-    let v = of-places (λ ks from to. Outcome (record { rows = split_rows tag.Option comma (kept (line_of ks t.line.text.now t.line.pairs.now) from to); has_id = a.written.id }) (to - from) a.rows.now a.written.rows c.put_groups.result c.put_groups.new.rows) c.places-places.result c.places-places.ensures (c.put_groups.ensures _ _) in
+    let v = grouped-of comma tag.Option c.places-places.ensures c.put_groups.ensures _ _ in
     let w = of-run (λ l from to. Outcome (record { rows = split_rows tag.Option comma (kept l from to); has_id = a.written.id }) (to - from) a.rows.now a.written.rows c.put_groups.result c.put_groups.new.rows) t _ c.in_run.ensures v in
     put-options (line_in a.line) _ c.requires.uncut _ _ _ _ _ _ c.in-Options.is (told-as _ _ _ _ _ _ refl _ _ w (omega arith))
 
@@ -34,7 +33,7 @@ pub returns-in-Roles : goal.returns-in-Roles
 returns-in-Roles c =
     let a = c.args in
     let t = c.in_run-in-Roles.result in
-    let v = of-places (λ ks from to. Outcome (record { rows = split_rows tag.Role whitespace (kept (line_of ks t.line.text.now t.line.pairs.now) from to); has_id = a.written.id }) (to - from) a.rows.now a.written.rows c.put_groups-in-Roles.result c.put_groups-in-Roles.new.rows) c.places-places-in-Roles.result c.places-places-in-Roles.ensures (c.put_groups-in-Roles.ensures _ _) in
+    let v = grouped-of whitespace tag.Role c.places-places-in-Roles.ensures c.put_groups-in-Roles.ensures _ _ in
     let w = of-run (λ l from to. Outcome (record { rows = split_rows tag.Role whitespace (kept l from to); has_id = a.written.id }) (to - from) a.rows.now a.written.rows c.put_groups-in-Roles.result c.put_groups-in-Roles.new.rows) t _ c.in_run-in-Roles.ensures v in
     put-roles (line_in a.line) _ c.requires.uncut _ _ _ _ _ _ c.in-Roles.is (told-as _ _ _ _ _ _ refl _ _ w (omega arith))
 

@@ -1,11 +1,9 @@
 -- `has_modifier` looks for a + or -. The loop's invariant: one is found already or the rest holds one, exactly where the whole does. Assumes nothing.
-use Prim.Native.Nat.{◌≤◌}
 use mathlib.Core.Bool.{◌||◌}
 use mathlib.Core.Path.{◌≡◌}
-use lib.Dec.{eqb}
 use lib.ListN.{drop}
 use Rattle.customize_subs.specs.Text.{modified}
 use Rattle.customize_subs.proofs.parts.has_modifier.Given as goal
 
 abbrev pub invariant-loop-b : goal.invariant-loop-b
-invariant-loop-b l = (l.found ≤ 1) × ((eqb l.found 1 || modified (drop l.b-index l.text)) ≡ modified l.text)
+invariant-loop-b l = (l.found || modified (drop l.b-index l.text)) ≡ modified l.text

@@ -1,25 +1,33 @@
 -- `is_stop` tells a Hash, a Percent and a one-byte Dots from other tokens, by its kind and its length. Assumes nothing.
-use Rattle.std.proofs.Common.{sym, ap, ◌∙◌, ℕ}
-use lib.Dec.{eqb}
-use borrow.Author.Tests.{eq-eqb}
-use Rattle.put_rows.proofs.GroupRows.{stop-hash, stop-percent, stop-dots}
-use Rattle.runs.proofs.KeptLaws.{kind-is}
-use Rattle.runs.proofs.NamesLaws.{kind-of, kind-not, one-is}
+use Rattle.std.proofs.Common.{rules, tests, sym, ap, ◌∙◌, ◌≡◌, ◌||◌, ℕ, true, eqb}
+use Rattle.token.specs.Kind.{hash, percent}
+use Rattle.token.proofs.Matched.{matched}
+use Rattle.put_rows.proofs.GroupRows.{stop-either, stop-dots, stop-other}
+use Rattle.runs.proofs.NamesLaws.{kind-of, one-long}
 use Rattle.token.specs.Line.{token_at}
-use Rattle.token.specs.Checked.{line_in}
+use Rattle.token.specs.Checked.{line_in, token_in}
 use Rattle.put_rows.proofs.shorthand.is_stop.Goals as goal
 
-pub returns-then-kind : goal.returns-then-kind
-returns-then-kind c =
-    let line = line_in c.args.line in
-    stop-dots (token_at line c.args.at.0) (kind-of line c.args.at.0 _ c.if-kind.true) _ (one-is _ _ _ c.args.line.lent _ c.requires ∙ ap (λ (n : ℕ). eqb n 1) (sym c.length_of.ensures))
+pub returns-in-Ok-Hash : goal.returns-in-Ok-Hash
+unfolding token_at
+returns-in-Ok-Hash c =
+    let q : (eqb c.kind.result hash || eqb c.kind.result percent) ≡ true = search (rules, tests) in
+    stop-either (token_in c.args.token) (sym (ap (λ (n : ℕ). eqb n hash || eqb n percent) c.kind.ensures) ∙ q)
 
-pub returns-then-kind-2 : goal.returns-then-kind-2
-returns-then-kind-2 c =
-    let line = line_in c.args.line in
-    eq-eqb _ _ c.if-kind-2.true ∙ stop-hash (token_at line c.args.at.0) (kind-of line c.args.at.0 _ c.if-kind-2.true)
+pub returns-in-Ok-Dots : goal.returns-in-Ok-Dots
+returns-in-Ok-Dots c =
+    let t = c.args.token in
+    let k = matched (sym c.kind.ensures ∙ c.in-Ok-Dots.ensures) c.in-Ok-Dots.field-0-is in
+    stop-dots (token_in t) (kind-of (line_in t.line) t.place.0 _ k) _ (one-long _ _ _ t.line.lent _ t.within _ c.length.ensures)
 
-pub returns-else-kind-2 : goal.returns-else-kind-2
-returns-else-kind-2 c =
-    let line = line_in c.args.line in
-    sym (kind-is line c.args.at.0 _) ∙ stop-percent (token_at line c.args.at.0) (kind-not line c.args.at.0 _ c.if-kind.false) (kind-not line c.args.at.0 _ c.if-kind-2.false)
+pub returns-in_default : goal.returns-in_default
+unfolding token_at
+returns-in_default c =
+    let k = c.kind.ensures in
+    stop-other (token_in c.args.token) (λ e. search rules) (λ e. search rules) (λ e. search rules)
+
+pub returns-in_default-2 : goal.returns-in_default-2
+unfolding token_at
+returns-in_default-2 c =
+    let k = c.kind.ensures in
+    stop-other (token_in c.args.token) (λ e. search rules) (λ e. search rules) (λ e. search rules)

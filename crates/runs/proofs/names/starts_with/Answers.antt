@@ -1,23 +1,15 @@
--- `starts_with` compares byte by byte. The loop's invariant: the rest of `name` begins with the rest of `start` exactly where the whole does. Assumes nothing.
-use native.Mathlib.Omega.{arith}
-use mathlib.Core.Path.{sym, ◌∙◌}
-use Rattle.runs.proofs.Naming.{prefix-step, prefix-differs, prefix-short, prefix-end}
+-- `starts_with` compares byte by byte. Assumes nothing.
+use Rattle.std.proofs.Common.{rules, tests, ℕ, ◌∙◌, eqb, arith}
+use Rattle.std.proofs.lemmas.Iterator.{YieldsList-from_slice, YieldsList-from_zip}
+use Rattle.std.proofs.lemmas.Iterator.Search.{all_from_yields_List}
+use Rattle.std.proofs.lemmas.Bool.{lt-leb}
+use Rattle.runs.proofs.Naming.{prefix-zip, prefix-short}
 use Rattle.runs.proofs.names.starts_with.Goals as goal
 
-pub returns-then-name-start : goal.returns-then-name-start
-returns-then-name-start c = prefix-short c.args.start.now c.args.name.now c.if-name-start.true
+pub returns-then-start-name : goal.returns-then-start-name
+returns-then-start-name c =
+    all_from_yields_List (λ (p : ℕ × ℕ). eqb p.0 p.1) c.all.new.self _ _ c.all.ensures.ran (YieldsList-from_zip (YieldsList-from_slice c.args.start.now cc) (YieldsList-from_slice c.args.name.now cc))
+    (λ x b q k. search (rules, tests)) ∙ prefix-zip _ _ (omega arith)
 
-pub returns-then-start-i : goal.returns-then-start-i
-returns-then-start-i c =
-    let a = c.args in
-    let l = c.loop-i in
-    sym (prefix-differs a.start.now a.name.now l.i (omega arith) (omega arith) c.if-start-i.true) ∙ l.invariant
-
-pub loop-i-preserved : goal.loop-i-preserved
-loop-i-preserved c =
-    let a = c.args in
-    let l = c.loop-i in
-    sym (prefix-step a.start.now a.name.now l.i (omega arith) (omega arith) c.if-start-i.false) ∙ l.invariant
-
-pub returns : goal.returns
-returns c = sym (prefix-end c.args.start.now c.args.name.now c.loop-i.i (omega arith)) ∙ c.loop-i.invariant
+pub returns-else-start-name : goal.returns-else-start-name
+returns-else-start-name c = lt-leb _ _ c.if-start-name.false ∙ prefix-short _ _ c.if-start-name.false

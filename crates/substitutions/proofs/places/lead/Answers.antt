@@ -1,28 +1,28 @@
 -- `lead` puts a kind first. The loop's invariant: what is passed has moved by one place, and the rest is pushed by what is
 -- carried. Assumes nothing.
-use borrow.Author.Rules.{rules}
 use native.Mathlib.Omega.{arith}
 use mathlib.Core.Path.{sym, ◌∙◌}
-use lib.ListN.{length-set}
 use Rattle.substitutions.specs.Moves.{led}
 use Rattle.substitutions.proofs.PlacesLaws.{pushed-is, pushed-here, pushed-next, pushed-done}
 use Rattle.substitutions.proofs.places.lead.Goals as goal
 
-pub loop-i-init : goal.loop-i-init
+pub loop-place-init : goal.loop-place-init
 unfolding led
-loop-i-init c = (search rules, pushed-is c.args.k c.args.k c.args.places)
+loop-place-init c = pushed-is c.from-kind.result c.from-kind.result c.args.places
 
-pub returns-then-here-k : goal.returns-then-here-k
-returns-then-here-k c =
-    let l = c.loop-i in
-    pushed-here l.p l.i c.args.k 0 (omega arith) l.carried c.if-here-k.true ∙ l.invariant.1
+pub loop-place-preserved : goal.loop-place-preserved
+loop-place-preserved c =
+    let l = c.loop-place in
+    let r = c.replace-carried.ensures in
+    rw (r.value, r.after) (pushed-next l.place-items l.place-index c.from-kind.result 0 (omega arith) l.carried (λ e. c.if-carried-kind.false (r.value ∙ e)) ∙ l.invariant)
 
-pub loop-i-preserved : goal.loop-i-preserved
-loop-i-preserved c =
-    let l = c.loop-i in
-    (simp length-set l.invariant.0, pushed-next l.p l.i c.args.k 0 (omega arith) l.carried c.if-here-k.false ∙ l.invariant.1)
+pub returns-after-loop-place : goal.returns-after-loop-place
+returns-after-loop-place c =
+    let l = c.loop-place in
+    rw c.from-kind.ensures.0 at (sym (pushed-done l.place-items l.place-index l.carried c.from-kind.result (omega arith)) ∙ l.invariant)
 
-pub returns : goal.returns
-returns c =
-    let l = c.loop-i in
-    sym (pushed-done l.p l.i l.carried c.args.k (omega arith)) ∙ l.invariant.1
+pub returns-then-carried-kind : goal.returns-then-carried-kind
+returns-then-carried-kind c =
+    let l = c.loop-place in
+    let r = c.replace-carried.ensures in
+    rw (r.after, ← c.from-kind.ensures.0) (pushed-here l.place-items l.place-index c.from-kind.result 0 (omega arith) l.carried (sym r.value ∙ c.if-carried-kind.true) ∙ l.invariant)

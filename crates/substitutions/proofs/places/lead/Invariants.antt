@@ -2,10 +2,10 @@
 -- carried. Assumes nothing.
 use mathlib.Core.Path.{◌≡◌}
 use mathlib.Core.List.{◌++◌}
-use lib.ListN.{length, take, drop}
+use lib.ListN.{take, drop}
 use Rattle.substitutions.specs.Moves.{led}
 use Rattle.substitutions.specs.Loops.{pushed}
 use Rattle.substitutions.proofs.places.lead.Given as goal
 
-abbrev pub invariant-loop-i : goal.invariant-loop-i
-invariant-loop-i l = (length l.p ≡ 7) × (take l.i l.p ++ pushed l.carried l.k (drop l.i l.p) ≡ led l.k l.initial.p)
+abbrev pub invariant-loop-place : goal.invariant-loop-place
+invariant-loop-place l = take l.place-index l.place-items ++ pushed l.carried l.kind (drop l.place-index l.place-items) ≡ led l.kind l.fn.places

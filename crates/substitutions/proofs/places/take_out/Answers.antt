@@ -1,26 +1,11 @@
--- `take_out` takes a kind out. The loop's invariant: what is passed does not hold the kind, and the rest is still to be searched. Assumes nothing.
-use native.Mathlib.Omega.{arith}
-use mathlib.Core.Path.{refl, sym, ◌∙◌}
-use Rattle.substitutions.proofs.PlacesLaws.{without-here, without-next, without-done}
+-- `take_out` closes the first place that has the kind, where there is one. Assumes nothing.
+use mathlib.Core.Path.{sym, ◌∙◌}
+use Rattle.substitutions.proofs.PlacesLaws.{without-at, without-none}
 use Rattle.substitutions.proofs.places.take_out.Goals as goal
 
-pub loop-i-init : goal.loop-i-init
-loop-i-init c = refl
+pub returns-in-Some : goal.returns-in-Some
+returns-in-Some c =
+    rw c.from.ensures.0 at (c.close.ensures ∙ without-at c.from.result c.args.places c.in-Some.at (sym c.first_with.ensures ∙ c.in-Some.is))
 
-pub returns-then-places-i : goal.returns-then-places-i
-returns-then-places-i c =
-    let l = c.loop-i in
-    let a = c.args in
-    c.close.ensures ∙ sym (without-here a.places l.i a.k 0 (omega arith) c.if-places-i.true) ∙ l.invariant
-
-pub loop-i-preserved : goal.loop-i-preserved
-loop-i-preserved c =
-    let l = c.loop-i in
-    let a = c.args in
-    sym (without-next a.places l.i a.k 0 (omega arith) c.if-places-i.false) ∙ l.invariant
-
-pub returns : goal.returns
-returns c =
-    let l = c.loop-i in
-    let a = c.args in
-    sym (without-done a.places l.i a.k (omega arith)) ∙ l.invariant
+pub returns-in-None : goal.returns-in-None
+returns-in-None c = rw c.from.ensures.0 at (without-none c.from.result c.args.places (sym c.first_with.ensures ∙ c.in-None.is))

@@ -7,4 +7,4 @@ use Rattle.substitutions.specs.Loops.{left}
 use Rattle.substitutions.proofs.rules.take_flags.Given as goal
 
 abbrev pub invariant-loop-i : goal.invariant-loop-i
-invariant-loop-i l = (l.f < 128) × (left l.f (drop l.i l.places) ≡ left l.flags l.places)
+invariant-loop-i l = (l.f < 128) × (left l.f (drop l.i l.fn.set.places) ≡ left l.fn.set.flags l.fn.set.places)

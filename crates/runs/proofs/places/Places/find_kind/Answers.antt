@@ -1,6 +1,6 @@
 -- `find_kind` looks for a kind. Assumes nothing.
-use Rattle.std.proofs.Common.{arith, sym, subst, ℕ, ◌∙◌, ◌≡◌, List}
-use Rattle.runs.proofs.Finds.{sought-start, sought-next, sought-here, sought-end}
+use Rattle.std.proofs.Common.{rules, tests, sym, subst, ℕ, ◌≤◌, ◌<◌, ◌∙◌, ◌≡◌, List, get_or}
+use Rattle.runs.proofs.Finds.{found-first}
 use Rattle.runs.proofs.KeptLaws.{is-kind, not-kind}
 use Rattle.runs.proofs.PlacesLaws.{found-place}
 use Rattle.runs.specs.Places.{FoundAt}
@@ -14,19 +14,13 @@ of-number kinds from to number kind r e w =
     let v = subst (λ (k : ℕ). FoundAt (of_kind k) kinds from to r) e w in
     record { place = λ text pairs. found-place _ _ _ _ _ v.high (v.found text pairs); found = v }
 
-pub loop-i-init : goal.loop-i-init
-loop-i-init c = sought-start _ _ _ _ (omega arith)
-
-pub loop-i-preserved : goal.loop-i-preserved
-loop-i-preserved c = sought-next _ _ _ _ _ (omega arith) (λ text pairs. not-kind (line_of _ text pairs) _ _ c.if-self-i.false) c.loop-i.invariant
-
-pub returns-then-self-i : goal.returns-then-self-i
-returns-then-self-i c =
-    let w = sought-here _ _ _ _ _ (omega arith) (λ e. c.requires (sym c.from-number.ensures ∙ sym c.if-self-i.true ∙ e)) (λ text pairs. is-kind (line_of _ text pairs) _ _ c.if-self-i.true) c.loop-i.invariant in
-    of-number _ _ _ _ _ _ c.from-number.ensures w
-
 pub returns : goal.returns
 returns c =
-    let w = sought-end _ _ _ _ _ (omega arith) c.loop-i.invariant in
-    let e : c.loop-i.i ≡ c.args.self.to.0 = omega arith in
-    of-number _ _ _ _ _ _ c.from-number.ensures (subst (λ (n : ℕ). FoundAt (of_kind c.from-number.result) c.args.self.kinds.now c.args.self.from.0 c.args.self.to.0 n) e w)
+    let kinds = c.args.self.kinds.now in
+    let f = c.find.ensures in
+    let r = c.find.result.0 in
+    let number = c.from-number.result in
+    let passed : (i : ℕ) → c.args.self.from.0 ≤ i → i < r → get_or kinds i 0 ≡ number → ⊥ = λ i low high. let q = f.before i low high in search (rules, tests) in
+    let met : r < c.args.self.to.0 → get_or kinds r 0 ≡ number = λ h. let q = f.here h in search (rules, tests) in
+    let w = found-first (of_kind number) kinds _ _ r f.low f.high (λ i low high text pairs. not-kind (line_of kinds text pairs) i number (passed i low high)) (λ h. record { kept = λ e. c.requires (sym c.from-number.ensures ∙ sym (met h) ∙ e); here = λ text pairs. is-kind (line_of kinds text pairs) r number (met h) }) in
+    of-number _ _ _ _ _ _ c.from-number.ensures w

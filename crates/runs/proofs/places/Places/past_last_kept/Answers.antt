@@ -1,10 +1,12 @@
 -- `past_last_kept` steps along the run: the laws of `Reading`, at its begin, at a step and at its end. Assumes nothing.
-use Rattle.std.proofs.Common.{◌∙◌, refl, ap, arith}
+use Rattle.std.proofs.Common.{◌∙◌, ap, arith}
 use Rattle.runs.proofs.Ranges.{reading-start, reading-next, reading-end, starts-over}
 use Rattle.runs.proofs.places.Places.past_last_kept.Goals as goal
 
 pub loop-left-init : goal.loop-left-init
-loop-left-init c = record { kinds = refl; to = refl; reading = reading-start _ _ _ (omega arith) c.requires }
+loop-left-init c =
+    let s = c.skip_attr_refs-left.ensures in
+    record { kinds = ap (λ r. r.now) s.kinds; to = s.to; reading = reading-start _ _ _ _ s.start }
 
 pub step-left-requires : goal.step-left-requires
 step-left-requires c = let e = ap (λ n. n.0) c.loop-left.invariant.to in omega (arith, e)

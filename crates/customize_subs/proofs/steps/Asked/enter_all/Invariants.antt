@@ -4,7 +4,7 @@ use mathlib.Core.Path.{◌≡◌}
 use lib.ListN.{drop}
 use Rattle.substitutions.specs.Kinds.{number_of}
 use Rattle.customize_subs.specs.Customizing.{entered}
-use Rattle.customize_subs.proofs.steps.enter_all.Given as goal
+use Rattle.customize_subs.proofs.steps.Asked.enter_all.Given as goal
 
 abbrev pub invariant-loop-sub : goal.invariant-loop-sub
-invariant-loop-sub l = entered l.mode l.strategy (map number_of (drop l.sub-index l.kinds)) l.next ≡ entered l.mode l.strategy (map number_of l.kinds) l.fn.set
+invariant-loop-sub l = entered l.fn.self.mode l.fn.self.strategy (map number_of (drop l.sub-index l.kinds)) l.next ≡ entered l.fn.self.mode l.fn.self.strategy (map number_of l.kinds) l.fn.set

@@ -10,10 +10,11 @@ ghost use Rattle.runs.specs.Kept.{OfKept};
 ghost use Rattle.runs.specs.Places.{Ends, all, StartsAt, EndsAt, Part, FoundAt};
 
 use places::Places;
+use steps::past_last_kept;
 use token::kind::TokenKind;
 use token::{Run, TokenPlace};
 
-pub mod names;
+mod names;
 pub mod places;
 mod steps;
 
@@ -31,7 +32,7 @@ fn run_between(from: TokenPlace, to: TokenPlace) -> Run
 }
 
 // Whether a token of this kind is a quote, double or single.
-pub fn is_quote(kind: u8) -> bool
+fn is_quote(kind: u8) -> bool
     ensures { result ≡ (eqb kind double_quote || eqb kind single_quote) }
 {
     matches!(
@@ -42,7 +43,8 @@ pub fn is_quote(kind: u8) -> bool
 
 // Whether a run's first and last token are two quotes of one kind.
 fn quotes_round(kinds: &[u8], r: Run) -> bool
-    requires { (r.place.0 + r.count ≤ length kinds.now) × Ends kinds.now r.place.0 (r.place.0 + r.count) }
+    requires among { r.place.0 + r.count ≤ length kinds.now }
+    requires ends { Ends kinds.now r.place.0 (r.place.0 + r.count) }
     ensures { (text pairs : List ℕ) → result ≡ quoted (in_run (line_of kinds.now text pairs) r) }
 {
     if r.count < 2 {
@@ -119,7 +121,7 @@ impl<'a> Places<'a> {
         if end <= self.from.0 || self.kinds[end - 1] != TokenKind::AttrRef as u8 {
             return self.to;
         }
-        self.past_last_kept()
+        past_last_kept(self.kinds, self.from, self.to)
     }
 
     // The run of the kept tokens.

@@ -1,3 +1,4 @@
+pub mod KindLaws
 pub mod LineLaws
 pub mod Checks
 pub mod Matched

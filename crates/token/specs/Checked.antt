@@ -11,8 +11,13 @@ use Rattle.token.specs.Lent.{line}
 abbrev pub line_in : lent.Line → Line
 line_in l = line l.kinds l.text l.pairs
 
+-- the checked line t is the line l, which no check refuses
+pub record Taken (l : Line) (t : lent.Line) : Type 0 where
+  pub accepted : refusal most_tokens l ≡ 0
+  pub same : line_in t ≡ l
+
 abbrev pub Checked : Line → Result lent.Line Refusal → Type 0
-Checked l (Ok t) = (refusal most_tokens l ≡ 0) × (line_in t ≡ l)
+Checked l (Ok t) = Taken l t
 Checked l (Err r) = number_of r ≡ refusal most_tokens l
 
 -- the token that a token of a checked line is

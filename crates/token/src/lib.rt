@@ -11,7 +11,7 @@ pub struct TokenPlace(pub usize);
 
 // A byte offset of a lexeme: counts bytes.
 #[derive(Clone, Copy, Debug, PartialEq, Eq)]
-pub struct ByteOffset(pub usize);
+pub(crate) struct ByteOffset(pub(crate) usize);
 
 // A run: the place of its first kept token, and how many places there are from it to its last. An empty run is 0, 0 and no
 // Option, as document 01 has it in the rows.

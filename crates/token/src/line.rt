@@ -23,9 +23,8 @@ pub fn limits() -> [usize; 2]
     [MOST_TOKENS, MOST_BYTES]
 }
 
-// The byte offset of a token's lexeme. This and `length_of` ask of the pairs alone, `lent::Token` has the same of a checked line's token: to ask for a
-// checked line here would ask more of callers.
-pub fn offset_of(pairs: &[u32], p: TokenPlace) -> ByteOffset
+// The byte offset of a token's lexeme. This and `length_of` ask of the pairs alone; `lent::Token` has the same of a checked line's token.
+pub(crate) fn offset_of(pairs: &[u32], p: TokenPlace) -> ByteOffset
     requires { 2 * p.0 + 1 < length pairs.now }
     ensures { result.0 ≡ offset_in pairs.now p.0 }
 {
@@ -33,7 +32,7 @@ pub fn offset_of(pairs: &[u32], p: TokenPlace) -> ByteOffset
 }
 
 // The length of a token's lexeme, in bytes.
-pub fn length_of(pairs: &[u32], p: TokenPlace) -> usize
+pub(crate) fn length_of(pairs: &[u32], p: TokenPlace) -> usize
     requires { 2 * p.0 + 1 < length pairs.now }
     ensures { result ≡ length_in pairs.now p.0 }
 {
@@ -63,7 +62,7 @@ fn some_misplaced(pairs: &[u32], size: usize) -> bool
 }
 
 // Why a line of at most `most` tokens is refused, if it is: the first check that applies.
-pub fn check_line(kinds: &[u8], text: &[u8], pairs: &[u32], most: usize) -> Result<(), Refusal>
+pub(crate) fn check_line(kinds: &[u8], text: &[u8], pairs: &[u32], most: usize) -> Result<(), Refusal>
     ensures { refusal_number result ≡ refusal most (line kinds.entry text.entry pairs.entry) }
 {
     let tokens = kinds.len();

@@ -18,4 +18,4 @@ pub returns : goal.returns
 unfolding block_line
 returns c =
     let e = c.in_ok-taken.ensures in
-    rw (eq-eqb _ _ e.0, c.bracketed.ensures, ap (λ l. is_block_attr_list l.kinds) e.1)
+    rw (eq-eqb _ _ e.accepted, c.bracketed.ensures, ap (λ l. is_block_attr_list l.kinds) e.same)

@@ -4,10 +4,10 @@ use Rattle.runs.proofs.Quotes.{quotes-short, quotes-alike, quotes_none}
 use Rattle.runs.proofs.quotes_round.Goals as goal
 
 pub returns-then-r-lt2 : goal.returns-then-r-lt2
-returns-then-r-lt2 c = quotes-short _ _ _ c.requires.1 (omega arith)
+returns-then-r-lt2 c = quotes-short _ _ _ c.requires.ends (omega arith)
 
 pub returns-then-is_quote : goal.returns-then-is_quote
-returns-then-is_quote c = λ text pairs. quotes-alike _ _ _ c.requires.1 (omega arith) text pairs (sym c.is_quote.ensures ∙ c.if-is_quote.true)
+returns-then-is_quote c = λ text pairs. quotes-alike _ _ _ c.requires.ends (omega arith) text pairs (sym c.is_quote.ensures ∙ c.if-is_quote.true)
 
 pub returns-else-is_quote : goal.returns-else-is_quote
-returns-else-is_quote c = λ text pairs. c.if-is_quote.false ∙ quotes_none _ _ _ c.requires.1 (omega arith) text pairs (sym c.is_quote.ensures ∙ c.if-is_quote.false)
+returns-else-is_quote c = λ text pairs. c.if-is_quote.false ∙ quotes_none _ _ _ c.requires.ends (omega arith) text pairs (sym c.is_quote.ensures ∙ c.if-is_quote.false)

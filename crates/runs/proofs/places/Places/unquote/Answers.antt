@@ -5,7 +5,7 @@ use Rattle.runs.proofs.Quotes.{quotes-room, unquoted-part, unquoted-run, plain-p
 use Rattle.runs.proofs.places.Places.unquote.Goals as goal
 
 pub quotes_round-requires : goal.quotes_round-requires
-quotes_round-requires c = (omega (arith, c.run_of-r.ensures.part.within), c.run_of-r.ensures.part.ends)
+quotes_round-requires c = record { among = omega (arith, c.run_of-r.ensures.part.within); ends = c.run_of-r.ensures.part.ends }
 
 pub returns-then-not-quotes_round : goal.returns-then-not-quotes_round
 returns-then-not-quotes_round c =

@@ -1,7 +1,7 @@
 -- `past_last_kept` steps along the run: the laws of `Reading`, at its begin, at a step and at its end. Assumes nothing.
 use Rattle.std.proofs.Common.{◌∙◌, ap, arith}
 use Rattle.runs.proofs.Ranges.{reading-start, reading-next, reading-end, starts-over}
-use Rattle.runs.proofs.places.Places.past_last_kept.Goals as goal
+use Rattle.runs.proofs.steps.past_last_kept.Goals as goal
 
 pub loop-left-init : goal.loop-left-init
 loop-left-init c =

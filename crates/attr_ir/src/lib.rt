@@ -16,7 +16,8 @@ use token::kind::TokenKind;
 mod look;
 mod naming;
 
-// How an attribute is read; a positional has its note.
+// How an attribute is read; a positional has its note. Public, though no other crate calls what answers it: the definition `Look.look` speaks of it, and laws of
+// other crates of that.
 #[derive(Clone, Copy, PartialEq, Eq)]
 pub enum Reading {
     Shorthand,
@@ -24,7 +25,7 @@ pub enum Reading {
     Named,
 }
 
-// What a name asks for; `Plain` is `subs` or `cols`.
+// What a name asks for; `Plain` is `subs` or `cols`. Public as `Reading` is, for the definition `Ir.name_of`.
 #[derive(Clone, Copy, PartialEq, Eq)]
 pub enum Name {
     Options,

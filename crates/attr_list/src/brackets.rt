@@ -41,7 +41,8 @@ fn read_list_in(
     commas: &mut [u16],
     rows: &mut [u32],
 ) -> Result<Read, Refusal>
-    requires { (width * length held.line.kinds.now ≤ length rows.old) × (length held.line.kinds.now ≤ length commas.old) }
+    requires room { width * length held.line.kinds.now ≤ length rows.old }
+    requires commas_room { length held.line.kinds.now ≤ length commas.old }
     ensures { Gives rows.old (list_of (line_in held.entry.line) (full_line entry) (is_block entry)) (told result) rows.new }
 {
     let line = held.line;
@@ -72,7 +73,8 @@ pub(crate) fn read_list(held: Held<'_>, entry: Entry, rows: &mut [u32]) -> Resul
 
 // Reads a link's text, which ends before the token at `end`.
 fn read_text(line: Line<'_>, end: TokenPlace, rows: &mut [u32]) -> Result<Read, Refusal>
-    requires { (width * length line.kinds.now ≤ length rows.old) × (end.0 < length line.kinds.now) }
+    requires room { width * length line.kinds.now ≤ length rows.old }
+    requires among { end.0 < length line.kinds.now }
     ensures { Gives rows.old (text_to (line_in line.entry) end.0) (told result) rows.new }
 {
     if line.kinds[end.0] != TokenKind::CloseBracket as u8 {

@@ -1,4 +1,4 @@
--- Document 01's lines on the bench that concern one attribute, and some more, computed from the definitions.
+-- Attributes read: the rows that the definitions give, computed. None is of a line of document 01's bench.
 use Rattle.std.specs.Prelude.{ℕ, suc, Bool, true, false, ◌≡◌, refl, List, [], ◌∷◌}
 use Rattle.token.specs.Kind as kind
 use Rattle.token.specs.Line.{Token, run}
@@ -47,12 +47,12 @@ read has ts = attribute true has (without is_attr_ref ts)
 answers : List Read
 unfolding attribute attribute_in reading ir_read cut_read id_read group_rows groups later_groups shorthand_read pieces attr_ir ir_as key_value_ir named_ir name_of value value_tokens name_tokens look sight symbol_sight same_bytes bytes run_of unquote inside quoted trim trim_end leave trim_start front last_of onward up_to without
 answers =
-    read false (line 0 (w ∷ eq ∷ dq ∷ w ∷ comma ∷ w ∷ dq ∷ [])) ∷
-    read false (line 0 (w ∷ eqs ∷ w ∷ eq ∷ w ∷ [])) ∷
-    read false (line 0 (dot ∷ w ∷ hash ∷ w ∷ percent ∷ [])) ∷
-    read false (line 0 (hash ∷ percent ∷ w ∷ [])) ∷
-    read false (line 0 (w ∷ dots ∷ w ∷ dot ∷ w ∷ [])) ∷
-    read false (naming (105 ∷ 100 ∷ []) (eq ∷ dq ∷ dq ∷ [])) ∷
+    read false (line 0 (w ∷ eq ∷ sq ∷ w ∷ comma ∷ w ∷ sq ∷ [])) ∷
+    read false (line 0 (w ∷ eqs ∷ w ∷ eqs ∷ w ∷ eq ∷ w ∷ [])) ∷
+    read false (line 0 (dot ∷ w ∷ percent ∷ w ∷ hash ∷ [])) ∷
+    read false (line 0 (percent ∷ hash ∷ w ∷ [])) ∷
+    read false (line 0 (w ∷ dots ∷ w ∷ hash ∷ w ∷ [])) ∷
+    read false (naming (105 ∷ 100 ∷ []) (eq ∷ sq ∷ sq ∷ [])) ∷
     read false (naming (105 ∷ 100 ∷ []) (eq ∷ w ∷ [])) ∷
     read true (naming (105 ∷ 100 ∷ []) (eq ∷ w ∷ [])) ∷
     read false (naming (111 ∷ 112 ∷ 116 ∷ 115 ∷ []) (eq ∷ dq ∷ w ∷ comma ∷ sp ∷ comma ∷ w ∷ dq ∷ [])) ∷
@@ -71,18 +71,18 @@ answers =
     []
 
 -- each of these is right, by computation
-benched : answers ≡ (
-    -- `k="a,b"`
+examples-hold : answers ≡ (
+    -- `k='a,b'`
     rows (named (run 0 1) (run 3 3) ∷ []) false ∷
-    -- `a==b=c`
-    rows (named (run 0 1) (run 2 3) ∷ []) false ∷
-    -- `.x#y%`
-    rows (role (run 1 1) ∷ ident (run 3 1) ∷ diagnostic 4 1 ∷ []) true ∷
-    -- `#%o`
-    rows (ident (run 0 0) ∷ option (run 2 1) ∷ []) true ∷
-    -- `a...b.c`
+    -- `a==b==c=d`
+    rows (named (run 0 1) (run 2 5) ∷ []) false ∷
+    -- `.x%y#`
+    rows (role (run 1 1) ∷ option (run 3 1) ∷ diagnostic 4 1 ∷ []) false ∷
+    -- `%#o`
+    rows (option (run 0 0) ∷ ident (run 2 1) ∷ []) true ∷
+    -- `a...b#c`
     rows (positional (run 0 1) ∷ diagnostic 1 2 ∷ []) false ∷
-    -- `id=""`
+    -- `id=''`
     rows (diagnostic 0 3 ∷ []) false ∷
     -- `id=a`, and the same where the list has an id
     rows (ident (run 2 1) ∷ []) true ∷
@@ -110,4 +110,4 @@ benched : answers ≡ (
     rows (diagnostic 0 4 ∷ []) true ∷
     [])
 unfolding answers
-benched = refl
+examples-hold = refl

@@ -1,4 +1,4 @@
--- Lines whose closing bracket and whose link reading are computed.
+-- Lines whose closing bracket and whose link reading are computed; none is a line of document 01's bench.
 use Rattle.std.specs.Prelude.{Option, None, ℕ, ◌≡◌, refl, List, [], ◌∷◌, map}
 use Rattle.token.specs.Kind.{backslash, close_bracket, comma, double_quote, equal_signs, open_bracket, word}
 use Rattle.token.specs.declared.TokenPlace.{TokenPlace}
@@ -20,8 +20,8 @@ abbrev pub cases : List Case
 cases =
     -- `a]`
     record { kinds = word ∷ close_bracket ∷ []; from = 0; last = at 1; next = at 1 }
-    -- `a\]b]c`, of document 01: 5 consumed
-    ∷ record { kinds = word ∷ backslash ∷ close_bracket ∷ word ∷ close_bracket ∷ word ∷ []; from = 0; last = None; next = at 4 }
+    -- `a\]b]`: the bracket at 2 is escaped
+    ∷ record { kinds = word ∷ backslash ∷ close_bracket ∷ word ∷ close_bracket ∷ []; from = 0; last = at 4; next = at 4 }
     -- `a,]b]`, from the token after the comma
     ∷ record { kinds = word ∷ comma ∷ close_bracket ∷ word ∷ close_bracket ∷ []; from = 2; last = at 4; next = at 2 }
     -- `a\]`: the last token closes though it is escaped; no next one does

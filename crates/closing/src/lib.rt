@@ -34,7 +34,8 @@ fn last_begins(commas: &[u16]) -> TokenPlace
 // The place of the closing bracket of a line, if there is one; `commas` are its dividing commas. `full` says that the list is the rest of a full line,
 // which its last token closes: a yes or no, as the entry answers it, and no case of an enum, which would say no more.
 pub fn closing_bracket(kinds: &[u8], commas: &[u16], full: bool) -> Option<TokenPlace>
-    requires { (0 < length kinds.now) × (commas.now ≡ dividing kinds.now) }
+    requires some { 0 < length kinds.now }
+    requires commas { commas.now ≡ dividing kinds.now }
     ensures { numbers_of result ≡ numbers_of (closing full kinds.now) }
 {
     if full {

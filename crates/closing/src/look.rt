@@ -9,10 +9,10 @@ use token::kind::TokenKind;
 
 // What has been seen: whether the look is in double quotes, whether it is in a nested list, and whether the token before was a Backslash.
 #[derive(Clone, Copy, Debug, PartialEq, Eq)]
-pub struct Seen {
-    pub quoted: bool,
-    pub nested: bool,
-    pub escaped: bool,
+pub(crate) struct Seen {
+    pub(crate) quoted: bool,
+    pub(crate) nested: bool,
+    pub(crate) escaped: bool,
 }
 
 // What a token of kind k at a place decides: that there is a list, that the text is closed before it, or nothing yet. `one` says that its length is 1.

@@ -1,4 +1,4 @@
--- Document 01's lines, and four more, delimited: what the definitions give, computed.
+-- Lines delimited: what the definitions give, computed. None is a line of document 01's bench, save `",'",']`, of whose commas laws speak.
 use Rattle.std.specs.Prelude.{ℕ, zero, suc, ◌<◌, ◌≡◌, refl, List, [], ◌∷◌, map, length, get_or}
 use Rattle.std.proofs.Common.{arith, inl, inr, lit<}
 use Rattle.token.specs.Kind.{backslash, close_bracket, comma, double_quote, dots, equal_signs, hash, percent, single_quote, word}
@@ -24,30 +24,20 @@ crossing = double_quote ∷ comma ∷ single_quote ∷ double_quote ∷ comma �
 
 abbrev pub cases : List Case
 cases =
-    -- `]`
-    record { kinds = close_bracket ∷ []; end = 0; count = 0; commas = []; attrs = [] }
-    -- `a,b]`
-    ∷ record { kinds = word ∷ comma ∷ word ∷ close_bracket ∷ []; end = 3; count = 3; commas = 1 ∷ []; attrs = to 0 1 ∷ to 2 3 ∷ [] }
-    -- `a,]`
-    ∷ record { kinds = word ∷ comma ∷ close_bracket ∷ []; end = 2; count = 2; commas = 1 ∷ []; attrs = to 0 1 ∷ to 2 2 ∷ [] }
-    -- `k="a,b",c]`
+    -- `,]`: a comma alone divides two attributes of no tokens
+    record { kinds = comma ∷ close_bracket ∷ []; end = 1; count = 1; commas = 0 ∷ []; attrs = to 0 0 ∷ to 1 1 ∷ [] }
+    -- `a,b,c]`
+    ∷ record { kinds = word ∷ comma ∷ word ∷ comma ∷ word ∷ close_bracket ∷ []; end = 5; count = 5; commas = 1 ∷ 3 ∷ []; attrs = to 0 1 ∷ to 2 3 ∷ to 4 5 ∷ [] }
+    -- `a]b,c]`: the count ends at the first bracket
+    ∷ record { kinds = word ∷ close_bracket ∷ word ∷ comma ∷ word ∷ close_bracket ∷ []; end = 5; count = 1; commas = []; attrs = to 0 5 ∷ [] }
+    -- `"a,'b",c,'d]`: the pairs cross; the comma at 2 and the one at 8 are rejoined, the one at 6 is not
     ∷ record {
-      kinds = word ∷ equal_signs ∷ double_quote ∷ word ∷ comma ∷ word ∷ double_quote ∷ comma ∷ word ∷ close_bracket ∷ [];
-      end = 9;
-      count = 9;
-      commas = 7 ∷ [];
-      attrs = to 0 7 ∷ to 8 9 ∷ [];
+      kinds = double_quote ∷ word ∷ comma ∷ single_quote ∷ word ∷ double_quote ∷ comma ∷ word ∷ comma ∷ single_quote ∷ word ∷ close_bracket ∷ [];
+      end = 11;
+      count = 11;
+      commas = 6 ∷ [];
+      attrs = to 0 6 ∷ to 7 11 ∷ [];
     }
-    -- `",'",']`
-    ∷ record { kinds = crossing; end = 6; count = 6; commas = 4 ∷ []; attrs = to 0 4 ∷ to 5 6 ∷ [] }
-    -- `a==b=c]`
-    ∷ record { kinds = word ∷ equal_signs ∷ word ∷ equal_signs ∷ word ∷ close_bracket ∷ []; end = 5; count = 5; commas = []; attrs = to 0 5 ∷ [] }
-    -- `.x#y%]`
-    ∷ record { kinds = dots ∷ word ∷ hash ∷ word ∷ percent ∷ close_bracket ∷ []; end = 5; count = 5; commas = []; attrs = to 0 5 ∷ [] }
-    -- `#%o]`
-    ∷ record { kinds = hash ∷ percent ∷ word ∷ close_bracket ∷ []; end = 3; count = 3; commas = []; attrs = to 0 3 ∷ [] }
-    -- `a...b.c]`
-    ∷ record { kinds = word ∷ dots ∷ word ∷ dots ∷ word ∷ close_bracket ∷ []; end = 5; count = 5; commas = []; attrs = to 0 5 ∷ [] }
     -- `a\],b]`: the count ends at an escaped bracket too, and the comma after it does not divide
     ∷ record { kinds = word ∷ backslash ∷ close_bracket ∷ comma ∷ word ∷ close_bracket ∷ []; end = 5; count = 2; commas = []; attrs = to 0 5 ∷ [] }
     -- `a",b]`: an odd last quote makes no pair

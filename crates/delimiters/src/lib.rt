@@ -32,7 +32,8 @@ fn at_quote(noted: &mut Option<usize>, stretches: usize) -> Option<usize>
 // Delimits a line by the kinds of its tokens, and leaves the places of the dividing commas, first to last, at the front of `commas`. The slice has
 // room for every token, and its numbers for every place.
 pub fn find_delimiters(kinds: &[u8], commas: &mut [u16]) -> Delimited
-    requires { (length kinds.now ≤ length commas.old) × (length kinds.now ≤ 65536) }
+    requires room { length kinds.now ≤ length commas.old }
+    requires places_fit { length kinds.now ≤ 65536 }
     ensures { Outcome kinds.now commas.old result commas.new }
 {
     let mut stretches: usize = 1;

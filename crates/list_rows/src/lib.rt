@@ -54,7 +54,8 @@ pub fn list_rows(
     block: bool,
     rows: &mut [u32],
 ) -> usize
-    requires end_in_bounds { (end.0 ≤ length line.kinds.now) × (width * (end.0 + 1) ≤ length rows.old) }
+    requires among { end.0 ≤ length line.kinds.now }
+    requires room { width * (end.0 + 1) ≤ length rows.old }
     requires ascending { Ascending 0 commas.now end.0 }
     ensures { WroteParted (line_in line.entry) block commas.now end.0 rows.old result rows.new }
 {

@@ -19,7 +19,7 @@ impl Written {
     // line has it, would be to ask for a text and for pairs as well.
     fn put_group(self, rows: &mut [u32], group: Places<'_>, tag: Tag) -> Written
         requires few { length group.kinds.now ≤ most_tokens }
-        requires from_in_bounds { width * (self.rows + (group.to.0 - group.from.0)) ≤ length rows.old }
+        requires room { width * (self.rows + (group.to.0 - group.from.0)) ≤ length rows.old }
         ensures rows { RowsOf (group_row tag) group.entry.kinds.now group.entry.from.0 group.entry.to.0 rows.old self.rows result.rows rows.new }
         ensures id { result.id ≡ self.id }
     {
@@ -40,8 +40,9 @@ impl Written {
         delimiter: TokenKind,
         tag: Tag,
     ) -> Written
-        requires few { (length places.kinds.now ≤ most_tokens) × (number_of delimiter ≡ attr_ref → ⊥) }
-        requires from_in_bounds { width * (self.rows + (places.to.0 - places.from.0)) ≤ length rows.old }
+        requires few { length places.kinds.now ≤ most_tokens }
+        requires no_attr_ref { number_of delimiter ≡ attr_ref → ⊥ }
+        requires room { width * (self.rows + (places.to.0 - places.from.0)) ≤ length rows.old }
         ensures { Grouped places.entry.kinds.now (number_of delimiter) tag places.entry.from.0 places.entry.to.0 self.id rows.old self.rows result rows.new }
     {
         let mut written = self;

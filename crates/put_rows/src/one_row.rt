@@ -16,7 +16,8 @@ use token::{Run, TokenPlace};
 impl Written {
     // Writes one row; whether the list has an id is handed on.
     pub fn put_one(self, rows: &mut [u32], row: Row) -> Written
-        requires { (width * self.rows + width ≤ length rows.old) × Fits row }
+        requires room { width * self.rows + width ≤ length rows.old }
+        requires fits { Fits row }
         ensures { WroteId rows.old self.rows (one_row self.id row) rows.new result }
     {
         row.put(rows, self.rows);
@@ -28,7 +29,7 @@ impl Written {
 
     // Writes the row of an attribute of which nothing is left.
     pub fn put_empty(self, rows: &mut [u32]) -> Written
-        requires { width * self.rows + width ≤ length rows.old }
+        requires room { width * self.rows + width ≤ length rows.old }
         ensures { WroteId rows.old self.rows (one_row self.id empty_positional) rows.new result }
     {
         self.put_one(rows, Row::one_run(Tag::EmptyPositional, Run::EMPTY))
@@ -38,7 +39,7 @@ impl Written {
     // (`attribute::uncut`, `list_rows::attr_rows`, `attr_list::brackets::read_text`).
     pub fn put_positional(self, rows: &mut [u32], places: Places<'_>) -> Written
         requires few { length places.kinds.now ≤ most_tokens }
-        requires width_in_bounds { width * self.rows + width ≤ length rows.old }
+        requires room { width * self.rows + width ≤ length rows.old }
         ensures { Positioned places.entry.kinds.now places.entry.from.0 places.entry.to.0 self.id rows.old self.rows result rows.new }
     {
         self.put_one(rows, Row::one_run(Tag::Positional, places.run_of()))
@@ -46,7 +47,8 @@ impl Written {
 
     // Writes a row of a name and a value; whether the list has an id is handed on.
     pub fn put_named(self, rows: &mut [u32], tag: Tag, name: Run, value: Run) -> Written
-        requires { (width * self.rows + width ≤ length rows.old) × Fits (two_runs tag name value) }
+        requires room { width * self.rows + width ≤ length rows.old }
+        requires fits { Fits (two_runs tag name value) }
         ensures { WroteId rows.old self.rows (one_row self.id (two_runs tag name value)) rows.new result }
     {
         let row = Row {
@@ -59,7 +61,8 @@ impl Written {
 
     // Writes a diagnostic. Its number stands where another row has a run's count: that is how document 01 lays out this row.
     pub fn put_diagnostic(self, rows: &mut [u32], place: TokenPlace, why: Diagnostic) -> Written
-        requires { (width * self.rows + width ≤ length rows.old) × small place.0 }
+        requires room { width * self.rows + width ≤ length rows.old }
+        requires small { small place.0 }
         ensures { WroteId rows.old self.rows (one_row self.id (diagnostic place.0 (diagnostic_number why))) rows.new result }
     {
         let run = Run {
@@ -71,7 +74,9 @@ impl Written {
 
     // Writes the row of an id, or what is wrong with it.
     pub fn put_id(self, rows: &mut [u32], run: Run) -> Written
-        requires { (width * self.rows + width ≤ length rows.old) × small run.place.0 × small run.count }
+        requires room { width * self.rows + width ≤ length rows.old }
+        requires small_place { small run.place.0 }
+        requires small_count { small run.count }
         ensures { WroteId rows.old self.rows (id_run self.id run) rows.new result }
     {
         if run.count == 0 {

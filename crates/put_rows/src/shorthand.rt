@@ -53,7 +53,7 @@ impl Written {
     // Writes the rows of an attribute in shorthand.
     #[inline(never)]
     pub fn push_shorthand(self, rows: &mut [u32], tokens: Tokens<'_>) -> Written
-        requires tokens_in_bounds { width * (self.rows + (tokens.to.0 - tokens.from.0)) ≤ length rows.old }
+        requires room { width * (self.rows + (tokens.to.0 - tokens.from.0)) ≤ length rows.old }
         requires stop_first { StopFirst tokens.line.kinds.now tokens.line.text.now tokens.line.pairs.now tokens.from.0 tokens.to.0 }
         ensures { Shorthanded (line_in tokens.entry.line) tokens.entry.from.0 tokens.entry.to.0 self.id rows.old self.rows result rows.new }
     {

@@ -53,7 +53,8 @@ impl Row {
     // Writes it as row `at` of the buffer; every other number keeps what it had. Number by number: as one array by `copy_from_slice`, which asks whether the
     // two overlap, a line of commas took half as long again, and missed the bar of five times the Rust's speed.
     pub fn put(self, rows: &mut [u32], at: usize)
-        requires { (width * at + width ≤ length rows.old) × Fits self }
+        requires room { width * at + width ≤ length rows.old }
+        requires fits { Fits self }
         ensures { rows.new ≡ sets rows.old (width * at) (numbers self) }
     {
         let i = WIDTH * at;

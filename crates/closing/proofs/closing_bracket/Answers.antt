@@ -9,5 +9,5 @@ use Rattle.closing.proofs.closing_bracket.Goals as goal
 
 pub next_bracket-requires : goal.next_bracket-requires
 next_bracket-requires c =
-    let e : c.last_begins.result.0 ≡ last_begins 0 (dividing c.args.kinds.now) = c.last_begins.ensures ∙ ap (last_begins 0) c.requires.1 in
-    omega (arith, begins-among c.args.kinds.now c.requires.0)
+    let e : c.last_begins.result.0 ≡ last_begins 0 (dividing c.args.kinds.now) = c.last_begins.ensures ∙ ap (last_begins 0) c.requires.commas in
+    omega (arith, begins-among c.args.kinds.now c.requires.some)

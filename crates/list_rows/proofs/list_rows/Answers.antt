@@ -5,12 +5,11 @@ use Rattle.list_rows.proofs.list_rows.Goals as goal
 
 pub invariant_of-attribute : goal.invariant_of-attribute
 invariant_of-attribute c =
-    let p = c.requires.end_in_bounds in
-    let v = comma-room _ _ _ _ _ _ _ _ _ _ c.loop-comma.invariant _ c.from.ensures c.loop-comma-test.true p.1 in
-    record { within = (v.0, omega (arith, v.1, p.0)) }
+    let v = comma-room _ _ _ _ _ _ _ _ _ _ c.loop-comma.invariant _ c.from.ensures c.loop-comma-test.true c.requires.room in
+    record { within = (v.0, omega (arith, v.1, c.requires.among)) }
 
 pub attr_rows-written-requires : goal.attr_rows-written-requires
-attr_rows-written-requires c = (comma-room _ _ _ _ _ _ _ _ _ _ c.loop-comma.invariant _ c.from.ensures c.loop-comma-test.true c.requires.end_in_bounds.1).2
+attr_rows-written-requires c = (comma-room _ _ _ _ _ _ _ _ _ _ c.loop-comma.invariant _ c.from.ensures c.loop-comma-test.true c.requires.room).2
 
 pub loop-comma-preserved : goal.loop-comma-preserved
 loop-comma-preserved c = next _ _ _ _ _ _ _ _ _ _ c.loop-comma.invariant _ c.from.ensures c.loop-comma-test.true _ _ c.attr_rows-written.ensures

@@ -18,7 +18,7 @@ pub list_rows-written-requires : goal.list_rows-written-requires
 list_rows-written-requires c =
     let l = c.args.held.line in
     let w = end_is l.kinds.now _ _ c.closing_bracket.ensures l.lent.some _ c.in-Some.is in
-    record { end_in_bounds = (omega (arith, w.among), omega (arith, w.among, c.requires.0)); ascending = list-commas l.kinds.now _ _ c.closing_bracket.ensures l.lent.some _ c.in-Some.is _ c.find_delimiters-delimited.ensures.places }
+    record { among = omega (arith, w.among); room = omega (arith, w.among, c.requires.room); ascending = list-commas l.kinds.now _ _ c.closing_bracket.ensures l.lent.some _ c.in-Some.is _ c.find_delimiters-delimited.ensures.places }
 
 pub overflow_add-result : goal.overflow_add-result
 overflow_add-result c =

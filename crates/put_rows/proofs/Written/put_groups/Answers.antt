@@ -10,11 +10,11 @@ loop-delimiter-init c = record { grouping = grouping-start _ _ _ _ _ _ _ (omega 
 pub invariant_of-left : goal.invariant_of-left
 invariant_of-left c = record { within = (c.loop-delimiter.invariant.grouping.high, omega arith) }
 
-pub put_group-written-requires-clause-from_in_bounds : goal.put_group-written-requires-clause-from_in_bounds
-put_group-written-requires-clause-from_in_bounds c =
+pub put_group-written-requires-clause-room : goal.put_group-written-requires-clause-room
+put_group-written-requires-clause-room c =
     let g = c.loop-delimiter.invariant.grouping in
     let f = c.find_kind-end.ensures.found in
-    omega (arith, g.few, g.low, g.high, g.long, f.low, f.high, c.requires.from_in_bounds)
+    omega (arith, g.few, g.low, g.high, g.long, f.low, f.high, c.requires.room)
 
 pub returns-then-places-end : goal.returns-then-places-end
 returns-then-places-end c = λ text pairs.

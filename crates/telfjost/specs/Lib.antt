@@ -1,3 +1,2 @@
 pub mod Outcome
 pub mod ByNumber
-pub mod Examples

@@ -28,14 +28,11 @@ use Rattle.list_rows.specs.ListRows.{rows_from, list_rows}
 use Rattle.attr_list.specs.Reading.{Reading, refused, gives, answer_of, buffer_of, list_to, link_to, read_by, unless_closed, lent_refusal, unless_refused, reading}
 use Rattle.attr_list.specs.ReadAsList.{TakenAsList, ClosedAt, ReadAsList}
 use Rattle.attr_list.specs.Outcome.{WhenReadAsList}
+use Rattle.token.proofs.LineLaws.{check-none}
 use Rattle.list_rows.proofs.ListRowsLaws.{list-few}
 use Rattle.attr_list.proofs.Laws.{bracket-closes, rows-in-front, others-after}
 
 -- ---- a line that 1 to 7 do not refuse has a token, and its buffer has room
-
-check-none : (t : Bool) (n rest : ℕ) → 0 < n → check t n rest ≡ 0 → (t ≡ false) × (rest ≡ 0)
-check-none true n rest h e = absurd (omega arith)
-check-none false n rest h e = (refl, e)
 
 not-no : (b : Bool) → not b ≡ false → b ≡ true
 not-no true e = refl

@@ -87,7 +87,7 @@ placed-not size end (o ∷ n ∷ ps) w =
 
 -- ---- a line that is not refused
 
-check-none : (t : Bool) (n rest : ℕ) → 0 < n → check t n rest ≡ 0 → (t ≡ false) × (rest ≡ 0)
+pub check-none : (t : Bool) (n rest : ℕ) → 0 < n → check t n rest ≡ 0 → (t ≡ false) × (rest ≡ 0)
 check-none true n rest h e = absurd (omega arith)
 check-none false n rest h e = (refl, e)
 

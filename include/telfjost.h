@@ -132,8 +132,9 @@ telfjost_list telfjost_link_macro_attr_list(const uint8_t *kinds, size_t kinds_l
  * no flag without a place. Port mode takes every held set, sheet mode every sound one; each mode
  * gives back only sets that it takes.
  *
- * Two modes: port mode does what asciidork-parser 0.38.2 does, sheet mode what AsciiDoc documents,
- * as docs/RULES.md has it. docs/DIFFERENCES.md tells where they differ.
+ * Two modes: port mode does what asciidork-parser 0.38.2 does; sheet mode is our addition, after the
+ * AsciiDoc documentation as we remember it (docs/RULES.md, R40). docs/DIFFERENCES.md tells where they
+ * differ.
  */
 typedef struct {
     uint8_t places[7];

@@ -90,9 +90,9 @@ impl fmt::Display for Sub {
 /// A set of substitutions: seven places, and a flag byte. Any numbers will do; a set that is
 /// not held (in sheet mode: not sound) is refused, and [`Set::refusal`] tells beforehand.
 ///
-/// Port mode does what asciidork-parser 0.38.2 does, sheet mode what AsciiDoc documents;
-/// docs/RULES.md has the rules of both. `Set::default()` is the empty set; that of the Rust's
-/// `Substitutions` is [`Set::normal`].
+/// Port mode does what asciidork-parser 0.38.2 does; sheet mode is our addition, after the AsciiDoc
+/// documentation as we remember it (docs/RULES.md, R40). `Set::default()` is the empty set; that of
+/// the Rust's `Substitutions` is [`Set::normal`].
 #[derive(Debug, Clone, Copy, PartialEq, Eq, Hash, Default)]
 #[repr(C)]
 pub struct Set {

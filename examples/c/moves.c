@@ -1,6 +1,6 @@
 /*
  * Substitutions put into, taken out of and moved to the front of a set, one kind at a time, in
- * port mode (as the Rust does it) and in sheet mode (as AsciiDoc documents it).
+ * port mode (as the Rust does it) and in sheet mode (our addition; see telfjost.h).
  */
 #include <stdio.h>
 

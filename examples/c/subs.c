@@ -1,6 +1,6 @@
 /*
  * What a subs attribute makes of the substitutions of a paragraph, in port mode (as the Rust
- * does it) and in sheet mode (as AsciiDoc documents it).
+ * does it) and in sheet mode (our addition; see telfjost.h).
  */
 #include <stdio.h>
 #include <string.h>

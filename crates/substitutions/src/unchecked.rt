@@ -18,7 +18,7 @@ fn places_to_fill(mode: Mode) -> usize
     }
 }
 
-pub fn insert(mode: Mode, set: Substitutions, sub: Subs) -> Substitutions
+fn insert(mode: Mode, set: Substitutions, sub: Subs) -> Substitutions
     ensures { result ≡ insert_of (room mode) (number_of sub) set }
 {
     let flags = set.flags;
@@ -31,7 +31,7 @@ pub fn insert(mode: Mode, set: Substitutions, sub: Subs) -> Substitutions
     }
 }
 
-pub fn remove(set: Substitutions, sub: Subs) -> Substitutions
+fn remove(set: Substitutions, sub: Subs) -> Substitutions
     ensures { result ≡ remove_of (number_of sub) set }
 {
     let flags = set.flags;
@@ -44,7 +44,7 @@ pub fn remove(set: Substitutions, sub: Subs) -> Substitutions
     }
 }
 
-pub fn prepend(set: Substitutions, sub: Subs) -> Substitutions
+fn prepend(set: Substitutions, sub: Subs) -> Substitutions
     ensures { result ≡ prepend_of (number_of sub) set }
 {
     let flags = set.flags;

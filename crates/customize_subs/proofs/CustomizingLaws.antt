@@ -25,7 +25,7 @@ use Rattle.subs_names.specs.Names.{lookup_of}
 use Rattle.customize_subs.specs.Text.{split, first_of, last_of}
 use Rattle.customize_subs.specs.Customizing.{part_of, move_of, entered, strategy_of, name_of, entered_name, stepped, through, start_of, meta_of, meta_refusal}
 use Rattle.customize_subs.proofs.TextLaws.{between-length, between_cons, parts-cons, parts_none}
-use Rattle.customize_subs.specs.Places.{to_comma, between, parts_from, front_of, PartAt, named, named_at, NameAt}
+use Rattle.customize_subs.proofs.Places.{to_comma, between, parts_from, front_of, PartAt, named, named_at, NameAt}
 use Rattle.customize_subs.specs.Steps.{is_no_op}
 
 -- A set that is_no_op is what the move gives.

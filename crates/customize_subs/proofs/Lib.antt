@@ -1,3 +1,4 @@
+pub mod Places
 pub mod SetOfNameLaws
 pub mod SheetExamples
 pub mod TextLaws

@@ -24,8 +24,8 @@ use Rattle.std.proofs.Math.ListN.{length, take, get_or, length-drop}
 use Rattle.std.proofs.Math.Seq.{drop-cons}
 use Rattle.substitutions.specs.Kinds.{one}
 use Rattle.substitutions.proofs.KindsLaws.{bool_eq}
-use Rattle.customize_subs.specs.Text.{on_first, split, front, blank, back, modified}
-use Rattle.customize_subs.specs.Places.{to_comma, is_modifier, between, parts_from}
+use Rattle.customize_subs.specs.Text.{on_first, split, front, blank, back, is_modifier, modified}
+use Rattle.customize_subs.proofs.Places.{to_comma, between, parts_from}
 
 -- 1 where f is 1 or t holds, else 0.
 pub found-or : (f : ℕ) (t : Bool) → f ≤ 1 → (bit_or f (one t) ≤ 1) × (eqb (bit_or f (one t)) 1 ≡ (eqb f 1 || t))

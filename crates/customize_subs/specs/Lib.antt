@@ -2,5 +2,4 @@ pub mod Text
 pub mod Customizing
 pub mod Sheet
 pub mod Outcome
-pub mod Places
 pub mod Steps

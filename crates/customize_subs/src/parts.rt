@@ -1,8 +1,7 @@
 // The parts of the text between commas, and what each asks for.
 ghost use Rattle.std.specs.Prelude.{◌≡◌, ◌<◌, length, get_or};
-ghost use Rattle.customize_subs.specs.Text.{front, back, modified};
+ghost use Rattle.customize_subs.specs.Text.{front, back, is_modifier, modified};
 ghost use Rattle.customize_subs.specs.Customizing.{part_of, strategy_of, name_of};
-ghost use Rattle.customize_subs.specs.Places.{is_modifier};
 
 use substitutions::{Mode, Move};
 

@@ -1,5 +1,6 @@
--- Parts of a subs text by their places, as laws speak of them; the code reads them as slices. `TextLaws` and `CustomizingLaws` tie them to `Text` and `Customizing`.
-use Rattle.std.specs.Prelude.{ℕ, suc, ◌+◌, ◌-◌, ◌≡◌, Bool, cond, ◌||◌, List, [], ◌∷◌, eqb, leb, length, take, drop}
+-- Parts of a subs text by their places, as laws speak of them: the code reads them as slices, and no contract cites these. `TextLaws` and `CustomizingLaws`
+-- tie them to `Text` and `Customizing`.
+use Rattle.std.specs.Prelude.{ℕ, suc, ◌+◌, ◌-◌, ◌≡◌, cond, List, [], ◌∷◌, eqb, leb, length, take, drop}
 use Rattle.substitutions.specs.declared.Mode.{Mode}
 use Rattle.substitutions.specs.declared.Mode.TheVariants.{Port, Sheet}
 use Rattle.substitutions.specs.declared.Move.{Move}
@@ -11,10 +12,6 @@ use Rattle.customize_subs.specs.Customizing.{part_of, strategy_of, name_of}
 unfoldable pub to_comma : List ℕ → ℕ
 to_comma [] = 0
 to_comma (b ∷ bs) = cond (eqb b 44) 0 (suc (to_comma bs))
-
--- A byte that is + or −.
-abbrev pub is_modifier : ℕ → Bool
-is_modifier b = eqb b 43 || eqb b 45
 
 -- The bytes from place a up to place e.
 unfoldable pub between : ℕ → ℕ → List ℕ → List ℕ

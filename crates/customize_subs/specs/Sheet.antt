@@ -77,6 +77,6 @@ on_parts [] order = order
 on_parts (part ∷ parts) order = on_parts parts (on_part (spaced part) order)
 
 -- Documentation: the text is a list of names with commas between; a plain list replaces the block's steps, + and − alter them.
--- "If the text holds any + or −, begin with the set given, else the empty set. Split at commas".
+-- "If the text holds any + or − (bytes 43, 45), begin with the set given, else the empty set. Split at commas".
 unfoldable pub sheet_order : List ℕ → List ℕ → List ℕ
 sheet_order order text = on_parts (split text) (cond (modified text) order [])

@@ -29,9 +29,6 @@ loop-part-preserved-in_default c =
     let stepped = part-named c.args.mode l.next _ _ c.part_in-part.ensures n.result.0 _ _ (omega arith) n.ensures.strategy n.ensures.name (sym c.in_default.is ∙ c.look_up.ensures) in
     (l.invariant.0, through-next c.args.mode l.next _ _ _ p stepped ∙ l.invariant.1)
 
-pub enter-next-requires : goal.enter-next-requires
-enter-next-requires c = c.loop-part.invariant.0
-
 pub loop-part-preserved : goal.loop-part-preserved
 loop-part-preserved c =
     let l = c.loop-part in

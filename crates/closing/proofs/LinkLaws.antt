@@ -5,7 +5,7 @@ use Rattle.std.proofs.Math.Numerals.{add-one}
 use Rattle.std.specs.Prelude.{Bool, cond, not, ◌&&◌, ◌||◌, ◌≡◌, List, eqb, get_or}
 use Rattle.std.proofs.Math.Bool.{true, false}
 use Rattle.std.proofs.Math.Path.{refl}
-use Rattle.std.proofs.Common.{rules, sym, ap, ◌∙◌, ◌/◌, [], ◌∷◌, take, length-take, get_or-take}
+use Rattle.std.proofs.Common.{rules, sym, ap, ◌∙◌, ◌/◌, [], take, length-take, get_or-take}
 use Rattle.std.specs.Simd.{first_chunks}
 use Rattle.std.proofs.Math.ListN.{length}
 use borrow.Author.Tests.{ne_eqb}

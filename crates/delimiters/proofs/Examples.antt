@@ -1,7 +1,7 @@
 -- Lines delimited: what the definitions give, computed. None is a line of document 01's bench, save `",'",']`, of whose commas laws speak.
 use Rattle.std.specs.Prelude.{ℕ, zero, suc, ◌<◌, ◌≡◌, refl, List, [], ◌∷◌, map, length, get_or}
 use Rattle.std.proofs.Common.{arith, inl, inr, lit<}
-use Rattle.token.specs.Kind.{backslash, close_bracket, comma, double_quote, dots, equal_signs, hash, percent, single_quote, word}
+use Rattle.token.specs.Kind.{backslash, close_bracket, comma, double_quote, single_quote, word}
 use Rattle.delimiters.specs.Count.{counted, Quote, double, single}
 use Rattle.delimiters.specs.Delimit.{start, at_comma, rejoin, rejoin_times, rejoin_to, note, at_quote, step, after, dividing, Stretch, parted, attributes}
 use Rattle.delimiters.specs.Pairs.{before, Pair, Cross, Inside, Uncrossed}

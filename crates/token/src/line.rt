@@ -62,7 +62,12 @@ fn some_misplaced(pairs: &[u32], size: usize) -> bool
 }
 
 // Why a line of at most `most` tokens is refused, if it is: the first check that applies.
-pub(crate) fn check_line(kinds: &[u8], text: &[u8], pairs: &[u32], most: usize) -> Result<(), Refusal>
+pub(crate) fn check_line(
+    kinds: &[u8],
+    text: &[u8],
+    pairs: &[u32],
+    most: usize,
+) -> Result<(), Refusal>
     ensures { refusal_number result ≡ refusal most (line kinds.entry text.entry pairs.entry) }
 {
     let tokens = kinds.len();

@@ -11,7 +11,7 @@ neighbours : {P : Type 0} (kinds : List ℕ) (from n k : ℕ) (xs : List ℕ) (Q
     → n ≡ 2 → xs ≡ take (length kinds - from) (drop from kinds) → IsSomeAnd o Q
     → IfSome o (λ x. (length x.now ≡ n) × (k + n ≤ length xs) × IsSubsliceAt n xs k x.now)
     → ((y : Bor (List ℕ)) → from + 1 + k < length kinds → get_or y.now 0 0 ≡ get_or kinds (from + k) 0
-       → get_or y.now 1 0 ≡ get_or kinds (from + 1 + k) 0 → Q y → P)
+    → get_or y.now 1 0 ≡ get_or kinds (from + 1 + k) 0 → Q y → P)
     → P
 neighbours kinds from n k xs Q (Some y) two e q w then =
     let long = ap length e ∙ rest-long kinds from in

@@ -25,7 +25,7 @@ kind_too_large = 5
 abbrev pub pairs_not_in_order : ℕ
 pairs_not_in_order = 6
 
--- row buffer: "under 5 × tokens"
+-- row buffer: "under 6 × tokens" (document 02, slip 2)
 abbrev pub rows_too_short : ℕ
 rows_too_short = 7
 

@@ -5,13 +5,16 @@ use native.Mathlib.Omega.{arith}
 use Rattle.std.proofs.Math.Numerals.{add-one}
 use Rattle.std.proofs.Common.{add-suc, suc-add, add-zero, zero-add, sym, subst, ◌∙◌}
 use Rattle.std.specs.Prelude.{Bool, eqb, get_or}
-use Rattle.std.proofs.Math.Bool.{true, false, cond}
+use Rattle.std.proofs.Math.Bool.{true, false, cond, not}
 use Rattle.std.proofs.Math.Path.{◌≡◌, refl, ap}
 use mathlib.Core.List.{List, [], ◌∷◌, ◌++◌, append-nil}
 use borrow.Author.Tests.{eq-eqb, ne_eqb}
+use Rattle.token.specs.declared.quotes.QuoteMark.{QuoteMark}
+use Rattle.token.specs.declared.quotes.QuoteMark.TheVariants as mark
 use Rattle.token.specs.Kind.{attr_ref}
 use Rattle.token.specs.Line.{Line, Token, token_at, tokens, run, empty_run}
-use Rattle.runs.specs.Run.{of_kind, is_attr_ref, is_whitespace, without, up_to, onward, last_of, front, kept, trim_start, leave, trim_end, trim, both_quotes, quoted, inside, unquote, run_of}
+use Rattle.token.specs.Quotes.{mark_number}
+use Rattle.runs.specs.Run.{of_kind, is_attr_ref, is_whitespace, without, up_to, onward, last_of, front, kept, trim_start, leave, trim_end, trim, quotes_of, quote_mark, quoted, inside, unquote, run_of}
 use Rattle.runs.specs.Places.{Ends, FoundIn}
 
 -- ---- lists of tokens
@@ -258,10 +261,10 @@ module _ (l : Line) (from to : ℕ) (w : Ends l.kinds from to) where
 
 -- ---- unquote
 
-pub quoted-snoc : (t : Token) (us : List Token) (u : Token) → quoted (t ∷ (us ++ (u ∷ []))) ≡ both_quotes t u
-unfolding quoted last_of
-quoted-snoc t [] u = refl
-quoted-snoc t (x ∷ xs) u = ap (both_quotes t) (last_of_snoc x xs u)
+mark-snoc : (t : Token) (us : List Token) (u : Token) → quote_mark (t ∷ (us ++ (u ∷ []))) ≡ quotes_of t u
+unfolding quote_mark last_of
+mark-snoc t [] u = refl
+mark-snoc t (x ∷ xs) u = ap (quotes_of t) (last_of_snoc x xs u)
 
 pub inside_snoc : (t : Token) (us : List Token) (u : Token) → inside (t ∷ (us ++ (u ∷ []))) ≡ us
 unfolding inside front
@@ -276,31 +279,36 @@ pub unquote-plain : (ts : List Token) → quoted ts ≡ false → unquote ts ≡
 unfolding unquote
 unquote-plain ts e = rw e
 
-quoted-none : (ts : List Token) → ts ≡ [] → quoted ts ≡ false
-unfolding quoted
-quoted-none ts e = rw e
+mark_none : (ts : List Token) → ts ≡ [] → quote_mark ts ≡ mark.None
+unfolding quote_mark
+mark_none ts e = rw e
 
-quoted-one : (t : Token) (ts : List Token) → ts ≡ t ∷ [] → quoted ts ≡ false
+mark-one : (t : Token) (ts : List Token) → ts ≡ t ∷ [] → quote_mark ts ≡ mark.None
+unfolding quote_mark
+mark-one t ts e = rw e
+
+-- quotes are taken off where the mark is not 0
+pub quoted-by-mark : (ts : List Token) (m : QuoteMark) → quote_mark ts ≡ m → quoted ts ≡ not (eqb (mark_number m) 0)
 unfolding quoted
-quoted-one t ts e = rw e
+quoted-by-mark ts m e = rw e
 
 module _ (l : Line) (from to : ℕ) (w : Ends l.kinds from to) where
-  pub quoted-long : from + 1 < to → quoted (kept l from to) ≡ both_quotes (token_at l from) (token_at l (to - 1))
-  quoted-long h = ap quoted (kept-ends l from to w h) ∙ quoted-snoc (token_at l from) (kept l (from + 1) (to - 1)) (token_at l (to - 1))
+  pub mark-long : from + 1 < to → quote_mark (kept l from to) ≡ quotes_of (token_at l from) (token_at l (to - 1))
+  mark-long h = ap quote_mark (kept-ends l from to w h) ∙ mark-snoc (token_at l from) (kept l (from + 1) (to - 1)) (token_at l (to - 1))
 
-  pub quoted-short : to ≤ from + 1 → quoted (kept l from to) ≡ false
-  quoted-short h = go (to - from) refl
+  pub mark-short : to ≤ from + 1 → quote_mark (kept l from to) ≡ mark.None
+  mark-short h = go (to - from) refl
     where
-      go : (b : ℕ) → to - from ≡ b → quoted (kept l from to) ≡ false
-      go zero e = quoted-none (kept l from to) (kept-none l from to (omega arith))
-      go (suc b) e = quoted-one (token_at l from) (kept l from to) (kept-single l from to w (omega arith))
+      go : (b : ℕ) → to - from ≡ b → quote_mark (kept l from to) ≡ mark.None
+      go zero e = mark_none (kept l from to) (kept-none l from to (omega arith))
+      go (suc b) e = mark-one (token_at l from) (kept l from to) (kept-single l from to w (omega arith))
 
   pub quoted-room : quoted (kept l from to) ≡ true → from + 1 < to
   quoted-room e = go (to - (from + 1)) refl
     where
       go : (b : ℕ) → to - (from + 1) ≡ b → from + 1 < to
       go zero f =
-          let s : quoted (kept l from to) ≡ false = quoted-short (omega arith) in
+          let s : quoted (kept l from to) ≡ false = quoted-by-mark (kept l from to) mark.None (mark-short (omega arith)) in
           absurd (suc-ne-zero 0 cc)
       go (suc b) f = omega arith
 

@@ -5,3 +5,4 @@ pub mod Ranges
 pub mod Quotes
 pub mod Finds
 pub mod Naming
+pub mod RequotedLaws

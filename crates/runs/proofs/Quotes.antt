@@ -1,90 +1,80 @@
 -- Quotes round a run.
 use Prim.Native.Nat.{ℕ, ◌+◌, ◌-◌, ◌≤◌, ◌<◌}
 use native.Mathlib.Omega.{arith}
-use mathlib.Core.Bool.{true, false, ◌||◌}
-use mathlib.Core.Path.{◌≡◌, sym, ap, ◌∙◌}
+use mathlib.Core.Bool.{true, false, not}
+use mathlib.Core.Path.{◌≡◌, refl, sym, ap, ◌∙◌}
 use mathlib.Core.List.{List, []}
-use mathlib.Core.Logic.{inl, inr}
 use lib.Dec.{eqb}
 use lib.ListN.{get_or}
-use borrow.Author.Tests.{eqb-true, eqb-false}
-use Rattle.std.proofs.Math.Bool.{or-false}
-use Rattle.std.proofs.lemmas.Bool.{or_cases, or_parts}
+use borrow.Author.Tests.{eq-eqb, ne_eqb}
 use Rattle.token.specs.declared.Run.{Run}
-use Rattle.token.specs.Kind.{double_quote, single_quote}
-use Rattle.token.specs.Line.{Line, line_of}
-use Rattle.runs.specs.Run.{kept, quoted, unquote, run_of, in_run}
+use Rattle.token.specs.declared.quotes.QuoteMark.{QuoteMark}
+use Rattle.token.specs.declared.quotes.QuoteMark.TheVariants as mark
+use Rattle.token.specs.Line.{Line, line_of, token_at}
+use Rattle.token.specs.Quotes.{mark_number, marked}
+use Rattle.runs.specs.Run.{kept, quotes_of, quote_mark, mark_of, quoted, unquote, unquoted, run_of, in_run}
 use Rattle.runs.specs.Places.{Ends, all, Part}
-use Rattle.runs.proofs.KeptLaws.{kind-is, is-kind, not-kind, quoted-long, quoted-short, quoted-room, unquote-ends, unquote-plain}
+use Rattle.runs.proofs.KeptLaws.{mark-short, mark-long, quoted-by-mark, quoted-room, unquote-ends, unquote-plain}
 
-module _ (kinds : List ℕ) (a b : ℕ) (w : Ends kinds a b) where
-  pub quotes-short : b ≤ a + 1 → (text pairs : List ℕ) → false ≡ quoted (kept (line_of kinds text pairs) a b)
-  quotes-short h text pairs = sym (quoted-short (line_of kinds text pairs) a b w h)
+-- which quotes a first and a last token are, by their kinds
+quotes-alike-at : (l : Line) (p q : ℕ) → get_or l.kinds q 0 ≡ get_or l.kinds p 0 → quotes_of (token_at l p) (token_at l q) ≡ mark_of (get_or l.kinds p 0)
+unfolding token_at
+quotes-alike-at l p q e = rw (eq-eqb (get_or l.kinds q 0) (get_or l.kinds p 0) e)
 
-  module _ (h : a + 1 < b) (text pairs : List ℕ) where
-    l : Line
-    l = line_of kinds text pairs
+quotes-differ-at : (l : Line) (p q : ℕ) → (get_or l.kinds q 0 ≡ get_or l.kinds p 0 → ⊥) → quotes_of (token_at l p) (token_at l q) ≡ mark.None
+unfolding token_at
+quotes-differ-at l p q n = rw (ne_eqb (get_or l.kinds q 0) (get_or l.kinds p 0) n)
 
-    pub quotes-double : get_or kinds a 0 ≡ double_quote → eqb (get_or kinds (b - 1) 0) double_quote ≡ quoted (kept (line_of kinds text pairs) a b)
-    unfolding l
-    quotes-double e =
-        sym (quoted-long l a b w h ∙ rw (is-kind l a double_quote e, not-kind l a single_quote (λ f. omega (arith, e, f)), kind-is l (b - 1) double_quote) (or-false (eqb (get_or kinds (b - 1) 0) double_quote)))
+module _ (kinds : List ℕ) (a b : ℕ) (w : Ends kinds a b) (text pairs : List ℕ) where
+  pub quotes-short : b ≤ a + 1 → mark.None ≡ quote_mark (kept (line_of kinds text pairs) a b)
+  quotes-short h = sym (mark-short (line_of kinds text pairs) a b w h)
 
-    pub quotes-single : get_or kinds a 0 ≡ single_quote → eqb (get_or kinds (b - 1) 0) single_quote ≡ quoted (kept (line_of kinds text pairs) a b)
-    unfolding l
-    quotes-single e =
-        sym (quoted-long l a b w h ∙ rw (not-kind l a double_quote (λ f. omega (arith, e, f)), is-kind l a single_quote e, kind-is l (b - 1) single_quote))
+  pub quotes-alike : a + 1 < b → get_or kinds (b - 1) 0 ≡ get_or kinds a 0 → mark_of (get_or kinds a 0) ≡ quote_mark (kept (line_of kinds text pairs) a b)
+  quotes-alike h e =
+      let l = line_of kinds text pairs in
+      sym (mark-long l a b w h ∙ quotes-alike-at l a (b - 1) e)
 
-    pub quotes-other : (get_or kinds a 0 ≡ double_quote → ⊥) → (get_or kinds a 0 ≡ single_quote → ⊥) → false ≡ quoted (kept (line_of kinds text pairs) a b)
-    unfolding l
-    quotes-other e f = sym (quoted-long l a b w h ∙ rw (not-kind l a double_quote e, not-kind l a single_quote f))
+  pub quotes-differ : a + 1 < b → (get_or kinds (b - 1) 0 ≡ get_or kinds a 0 → ⊥) → mark.None ≡ quote_mark (kept (line_of kinds text pairs) a b)
+  quotes-differ h n =
+      let l = line_of kinds text pairs in
+      sym (mark-long l a b w h ∙ quotes-differ-at l a (b - 1) n)
 
--- the same of a first token by the one question, whether it is a quote
-module _ (kinds : List ℕ) (a b : ℕ) (w : Ends kinds a b) (h : a + 1 < b) (text pairs : List ℕ) where
-  pub quotes-alike : (eqb (get_or kinds a 0) double_quote || eqb (get_or kinds a 0) single_quote) ≡ true → eqb (get_or kinds (b - 1) 0) (get_or kinds a 0) ≡ quoted (kept (line_of kinds text pairs) a b)
-  quotes-alike e = elim (or_cases (eqb (get_or kinds a 0) double_quote) (eqb (get_or kinds a 0) single_quote) e) [
-    | inl f ↦
-        let k = eqb-true (get_or kinds a 0) double_quote f in
-        ap (eqb (get_or kinds (b - 1) 0)) k ∙ quotes-double kinds a b w h text pairs k
-    | inr f ↦
-        let k = eqb-true (get_or kinds a 0) single_quote f in
-        ap (eqb (get_or kinds (b - 1) 0)) k ∙ quotes-single kinds a b w h text pairs k
-  ]
+-- m says which quotes stand round the run r of the tokens kept from..to
+module _ (kinds : List ℕ) (from to : ℕ) (r : Run) (w : Part all kinds from to r) (m : QuoteMark) (g : (text pairs : List ℕ) → m ≡ quote_mark (in_run (line_of kinds text pairs) r)) where
+  of-run : (s : Run) → (text pairs : List ℕ) → s ≡ run_of (unquote (kept (line_of kinds text pairs) from to)) → marked s m ≡ unquoted (kept (line_of kinds text pairs) from to)
+  of-run s text pairs e = rw (e, g text pairs ∙ ap quote_mark (w.same text pairs)) refl
 
-  pub quotes_none : (eqb (get_or kinds a 0) double_quote || eqb (get_or kinds a 0) single_quote) ≡ false → false ≡ quoted (kept (line_of kinds text pairs) a b)
-  quotes_none e =
-      let p = or_parts (eqb (get_or kinds a 0) double_quote) (eqb (get_or kinds a 0) single_quote) e in
-      quotes-other kinds a b w h text pairs (eqb-false _ _ p.0) (eqb-false _ _ p.1)
+  -- there are some; s is the run of the tokens between them
+  module _ (n : eqb (mark_number m) 0 ≡ false) where
+    in-quotes : (text pairs : List ℕ) → quoted (in_run (line_of kinds text pairs) r) ≡ true
+    in-quotes text pairs = quoted-by-mark (in_run (line_of kinds text pairs) r) m (sym (g text pairs)) ∙ ap not n
 
--- the run r of the tokens kept from..to is in quotes, and s is the run of the tokens between them
-module _ (kinds : List ℕ) (from to : ℕ) (r : Run) (w : Part all kinds from to r) where
-  pub quotes-room : ((text pairs : List ℕ) → quoted (in_run (line_of kinds text pairs) r) ≡ true) → 1 < r.count
-  quotes-room e = omega (arith, quoted-room (line_of kinds [] []) r.place.0 (r.place.0 + r.count) w.ends (e [] []))
+    pub quotes-room : 1 < r.count
+    quotes-room = omega (arith, quoted-room (line_of kinds [] []) r.place.0 (r.place.0 + r.count) w.ends (in-quotes [] []))
 
-  module _ (e : (text pairs : List ℕ) → quoted (in_run (line_of kinds text pairs) r) ≡ true) where
     inner : (text pairs : List ℕ) → kept (line_of kinds text pairs) (r.place.0 + 1) (r.place.0 + r.count - 1) ≡ unquote (kept (line_of kinds text pairs) from to)
-    inner text pairs = unquote-ends (line_of kinds text pairs) r.place.0 (r.place.0 + r.count) w.ends (e text pairs) ∙ ap unquote (w.same text pairs)
+    inner text pairs = unquote-ends (line_of kinds text pairs) r.place.0 (r.place.0 + r.count) w.ends (in-quotes text pairs) ∙ ap unquote (w.same text pairs)
 
     pub unquoted-part : (s : Run) → Part all kinds (r.place.0 + 1) (r.place.0 + r.count - 1) s → Part unquote kinds from to s
     unquoted-part s v =
-        let room : 1 < r.count = quotes-room e in
         record {
-          within = omega (arith, v.within, w.within);
-          few = omega (arith, v.few, w.few);
-          low = λ h. omega (arith, v.low h, w.low (omega arith));
+          within = omega (arith, v.within, w.within, quotes-room);
+          few = omega (arith, v.few, w.few, quotes-room);
+          low = λ h. omega (arith, v.low h, quotes-room, w.low (omega (arith, quotes-room)));
           same = λ text pairs. v.same text pairs ∙ inner text pairs;
           ends = v.ends;
         }
 
-    pub unquoted-run : (s : Run) → ((text pairs : List ℕ) → s ≡ run_of (kept (line_of kinds text pairs) (r.place.0 + 1) (r.place.0 + r.count - 1))) → (text pairs : List ℕ) → s ≡ run_of (unquote (kept (line_of kinds text pairs) from to))
-    unquoted-run s v text pairs = v text pairs ∙ ap run_of (inner text pairs)
+    pub unquoted-text : (s : Run) → ((text pairs : List ℕ) → s ≡ run_of (kept (line_of kinds text pairs) (r.place.0 + 1) (r.place.0 + r.count - 1))) → (text pairs : List ℕ) → marked s m ≡ unquoted (kept (line_of kinds text pairs) from to)
+    unquoted-text s v text pairs = of-run s text pairs (v text pairs ∙ ap run_of (inner text pairs))
 
-  module _ (e : (text pairs : List ℕ) → quoted (in_run (line_of kinds text pairs) r) ≡ false) where
+  -- there are none
+  module _ (n : eqb (mark_number m) 0 ≡ true) where
     plain : (text pairs : List ℕ) → kept (line_of kinds text pairs) from to ≡ unquote (kept (line_of kinds text pairs) from to)
-    plain text pairs = sym (unquote-plain (kept (line_of kinds text pairs) from to) (ap quoted (sym (w.same text pairs)) ∙ e text pairs))
+    plain text pairs = sym (unquote-plain (kept (line_of kinds text pairs) from to) (quoted-by-mark (kept (line_of kinds text pairs) from to) m (ap quote_mark (sym (w.same text pairs)) ∙ sym (g text pairs)) ∙ ap not n))
 
     pub plain-part : Part unquote kinds from to r
     plain-part = record { within = w.within; few = w.few; low = w.low; same = λ text pairs. w.same text pairs ∙ plain text pairs; ends = w.ends }
 
-    pub plain-run : ((text pairs : List ℕ) → r ≡ run_of (kept (line_of kinds text pairs) from to)) → (text pairs : List ℕ) → r ≡ run_of (unquote (kept (line_of kinds text pairs) from to))
-    plain-run v text pairs = v text pairs ∙ ap run_of (plain text pairs)
+    pub plain-text : ((text pairs : List ℕ) → r ≡ run_of (kept (line_of kinds text pairs) from to)) → (text pairs : List ℕ) → marked r m ≡ unquoted (kept (line_of kinds text pairs) from to)
+    plain-text v text pairs = of-run r text pairs (v text pairs ∙ ap run_of (plain text pairs))

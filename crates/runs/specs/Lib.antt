@@ -1,4 +1,5 @@
 pub mod Run
+pub mod Requoted
 pub mod Names
 pub mod Places
 pub mod Kept

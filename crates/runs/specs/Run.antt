@@ -1,8 +1,12 @@
 -- Kept tokens and runs (document 01, "Tokens and runs").
-use Rattle.std.specs.Prelude.{ℕ, suc, ◌+◌, ◌-◌, Bool, false, cond, ◌&&◌, ◌||◌, List, [], ◌∷◌, eqb, ltb, length}
+use Rattle.std.specs.Prelude.{ℕ, suc, ◌+◌, ◌-◌, Bool, cond, not, List, [], ◌∷◌, eqb, ltb, length}
 use Rattle.token.specs.declared.Run.{Run}
+use Rattle.token.specs.declared.quotes.QuoteMark.{QuoteMark}
+use Rattle.token.specs.declared.quotes.QuoteMark.TheVariants as mark
+use Rattle.token.specs.declared.quotes.Unquoted.{Unquoted}
 use Rattle.token.specs.Kind.{attr_ref, comma, double_quote, dots, equal_signs, hash, percent, single_quote, whitespace}
 use Rattle.token.specs.Line.{Line, Token, tokens, run, empty_run}
+use Rattle.token.specs.Quotes.{mark_number, marked}
 
 -- ---- a token's kind and length
 
@@ -96,14 +100,25 @@ unfoldable pub trim : List Token → List Token
 trim ts = trim_end (trim_start ts)
 
 -- ---- "`unquote` takes the first and last token if there are two or more and both are DoubleQuote or both SingleQuote."
+-- "Taking off quotes must also report which were taken: 0 none, 1 double, 2 single."
 
-abbrev pub both_quotes : Token → Token → Bool
-both_quotes t u = (is_double_quote t && is_double_quote u) || (is_single_quote t && is_single_quote u)
+-- the mark of two quotes of this kind; of any other kind, none
+abbrev pub mark_of : (kind : ℕ) → QuoteMark
+mark_of k = cond (eqb k double_quote) mark.Double (cond (eqb k single_quote) mark.Single mark.None)
 
+-- which quotes a first and a last token are: two of one kind
+abbrev pub quotes_of : (first last : Token) → QuoteMark
+quotes_of t u = cond (eqb u.kind t.kind) (mark_of t.kind) mark.None
+
+-- which quotes are taken off these tokens
+unfoldable pub quote_mark : List Token → QuoteMark
+quote_mark [] = mark.None
+quote_mark (t ∷ []) = mark.None
+quote_mark (t ∷ u ∷ us) = quotes_of t (last_of u us)
+
+-- the mark is not 0
 unfoldable pub quoted : List Token → Bool
-quoted [] = false
-quoted (t ∷ []) = false
-quoted (t ∷ u ∷ us) = both_quotes t (last_of u us)
+quoted ts = not (eqb (mark_number (quote_mark ts)) 0)
 
 -- all but the first and the last
 unfoldable pub inside : List Token → List Token
@@ -119,6 +134,10 @@ unquote ts = cond (quoted ts) (inside ts) ts
 unfoldable pub run_of : List Token → Run
 run_of [] = empty_run
 run_of (t ∷ ts) = run t.place (suc ((last_of t ts).place - t.place))
+
+-- what `unquote` answers: the run of the tokens that are left, and which quotes were taken off
+abbrev pub unquoted : List Token → Unquoted
+unquoted ts = marked (run_of (unquote ts)) (quote_mark ts)
 
 -- "AttrRef tokens inside are skipped by whoever reads it": the tokens of a run
 abbrev pub in_run : Line → Run → List Token

@@ -2,16 +2,17 @@
 #![tactic(auto)]
 
 ghost use Rattle.std.specs.Prelude.{◌≡◌, List, ℕ, ◌+◌, ◌-◌, ◌≤◌, ◌<◌, length, get_or, eqb, ◌||◌};
-ghost use Rattle.token.specs.Kind.{attr_ref, double_quote, single_quote, whitespace};
+ghost use Rattle.token.specs.Kind.{attr_ref, whitespace};
 ghost use Rattle.token.specs.Line.{line_of};
 ghost use Rattle.token.specs.KindNumber.{number_of};
-ghost use Rattle.runs.specs.Run.{of_kind, trim_start, trim_end, trim, quoted, unquote, run_of, in_run, first_place, place_of_kind, between};
+ghost use Rattle.runs.specs.Run.{of_kind, trim_start, trim_end, trim, quote_mark, mark_of, unquote, unquoted, run_of, in_run, first_place, place_of_kind, between};
 ghost use Rattle.runs.specs.Kept.{OfKept};
 ghost use Rattle.runs.specs.Places.{Ends, all, StartsAt, EndsAt, Part, FoundAt};
 
 use places::Places;
 use steps::past_last_kept;
 use token::kind::TokenKind;
+use token::quotes::{QuoteMark, Unquoted};
 use token::{Run, TokenPlace};
 
 mod names;
@@ -31,27 +32,31 @@ fn run_between(from: TokenPlace, to: TokenPlace) -> Run
     Run::EMPTY
 }
 
-// Whether a token of this kind is a quote, double or single.
-fn is_quote(kind: u8) -> bool
-    ensures { result ≡ (eqb kind double_quote || eqb kind single_quote) }
+// The mark of a quote of this kind; of any other kind, none.
+fn mark_of(kind: u8) -> QuoteMark
+    ensures { result ≡ mark_of kind }
 {
-    matches!(
-        TokenKind::try_from(kind),
-        Ok(TokenKind::DoubleQuote | TokenKind::SingleQuote)
-    )
+    match TokenKind::try_from(kind) {
+        Ok(TokenKind::DoubleQuote) => QuoteMark::Double,
+        Ok(TokenKind::SingleQuote) => QuoteMark::Single,
+        _ => QuoteMark::None,
+    }
 }
 
-// Whether a run's first and last token are two quotes of one kind.
-fn quotes_round(kinds: &[u8], r: Run) -> bool
+// Which quotes a run's first and last token are, two of one kind.
+fn quotes_round(kinds: &[u8], r: Run) -> QuoteMark
     requires among { r.place.0 + r.count ≤ length kinds.now }
     requires ends { Ends kinds.now r.place.0 (r.place.0 + r.count) }
-    ensures { (text pairs : List ℕ) → result ≡ quoted (in_run (line_of kinds.now text pairs) r) }
+    ensures { (text pairs : List ℕ) → result ≡ quote_mark (in_run (line_of kinds.now text pairs) r) }
 {
     if r.count < 2 {
-        return false;
+        return QuoteMark::None;
     }
     let first = kinds[r.place.0];
-    is_quote(first) && kinds[r.place.0 + r.count - 1] == first
+    if kinds[r.place.0 + r.count - 1] != first {
+        return QuoteMark::None;
+    }
+    mark_of(first)
 }
 
 // Whether a token of this kind is no part of a trimmed end: AttrRef and Whitespace.
@@ -142,29 +147,27 @@ impl<'a> Places<'a> {
         run_between(rest.from, rest.trim_end())
     }
 
-    // Whether the first and last of the kept tokens are two quotes of one kind.
-    pub fn quoted(self) -> bool
-        ensures { OfKept quoted self.entry result }
-    {
-        quotes_round(self.kinds, self.run_of())
-    }
-
-    // The run of the kept tokens, less two quotes of one kind round them. Inlined: a function of its own takes the places through memory.
+    // The run of the kept tokens, less two quotes of one kind round them, and which quotes these are. Inlined: a function of its own takes the places through
+    // memory.
     #[inline(always)]
-    pub fn unquote(self) -> Run
-        ensures run { OfKept (λ ts. run_of (unquote ts)) self.entry result }
-        ensures part { Part unquote self.entry.kinds.now self.entry.from.0 self.entry.to.0 result }
+    pub fn unquote(self) -> Unquoted
+        ensures text { OfKept unquoted self.entry result }
+        ensures part { Part unquote self.entry.kinds.now self.entry.from.0 self.entry.to.0 result.run }
     {
-        let r = self.run_of();
-        if !quotes_round(self.kinds, r) {
-            return r;
+        let run = self.run_of();
+        let mark = quotes_round(self.kinds, run);
+        if mark.is_none() {
+            return Unquoted { run, mark };
         }
         let inside = Places {
             kinds: self.kinds,
-            from: TokenPlace(r.place.0 + 1),
-            to: TokenPlace(r.place.0 + r.count - 1),
+            from: TokenPlace(run.place.0 + 1),
+            to: TokenPlace(run.place.0 + run.count - 1),
         };
-        inside.run_of()
+        Unquoted {
+            run: inside.run_of(),
+            mark,
+        }
     }
 
     // The place of the first kept token of a kind, or `to`.

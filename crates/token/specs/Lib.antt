@@ -3,3 +3,4 @@ pub mod KindNumber
 pub mod Line
 pub mod Lent
 pub mod Checked
+pub mod Quotes

@@ -4,6 +4,7 @@
 pub mod kind;
 pub mod lent;
 pub mod line;
+pub mod quotes;
 
 // A token place: counts tokens.
 #[derive(Clone, Copy, Debug, PartialEq, Eq)]

@@ -1,29 +1,32 @@
 -- `unquote` takes the run of the kept tokens, and without its two quotes the run of those between them. Assumes nothing.
 use native.Mathlib.Omega.{arith}
 use mathlib.Core.Path.{sym, ◌∙◌}
-use Rattle.runs.proofs.Quotes.{quotes-room, unquoted-part, unquoted-run, plain-part, plain-run}
+use Rattle.runs.proofs.Quotes.{quotes-room, unquoted-part, unquoted-text, plain-part, plain-text}
 use Rattle.runs.proofs.places.Places.unquote.Goals as goal
 
-pub quotes_round-requires : goal.quotes_round-requires
-quotes_round-requires c = record { among = omega (arith, c.run_of-r.ensures.part.within); ends = c.run_of-r.ensures.part.ends }
+pub quotes_round-mark-requires : goal.quotes_round-mark-requires
+quotes_round-mark-requires c = record { among = omega (arith, c.run_of-run.ensures.part.within); ends = c.run_of-run.ensures.part.ends }
 
-pub returns-then-not-quotes_round : goal.returns-then-not-quotes_round
-returns-then-not-quotes_round c =
-    let run-of-call = c.run_of-r in
-    let quotes-round-call = c.quotes_round in
-    record { run = plain-run _ _ _ _ run-of-call.ensures.part (λ text pairs. sym (quotes-round-call.ensures text pairs) ∙ c.if-not-quotes_round.true) run-of-call.ensures.run; part = plain-part _ _ _ _ run-of-call.ensures.part (λ text pairs. sym (quotes-round-call.ensures text pairs) ∙ c.if-not-quotes_round.true) }
+pub returns-then-is_none : goal.returns-then-is_none
+returns-then-is_none c =
+    let r = c.run_of-run.ensures in
+    let m = c.quotes_round-mark.ensures in
+    let none = sym c.is_none.ensures ∙ c.if-is_none.true in
+    record { text = plain-text _ _ _ _ r.part _ m none r.run; part = plain-part _ _ _ _ r.part _ m none }
 
 pub overflow_sub-inside : goal.overflow_sub-inside
-overflow_sub-inside c = omega (arith, quotes-room _ _ _ _ c.run_of-r.ensures.part (λ text pairs. sym (c.quotes_round.ensures text pairs) ∙ c.if-not-quotes_round.false))
+overflow_sub-inside c = omega (arith, quotes-room _ _ _ _ c.run_of-run.ensures.part _ c.quotes_round-mark.ensures (sym c.is_none.ensures ∙ c.if-is_none.false))
 
 pub invariant_of-inside : goal.invariant_of-inside
 invariant_of-inside c =
-    let m = quotes-room _ _ _ _ c.run_of-r.ensures.part (λ text pairs. sym (c.quotes_round.ensures text pairs) ∙ c.if-not-quotes_round.false) in
-    record { within = (omega arith, omega (arith, c.run_of-r.ensures.part.within)) }
+    let r = c.run_of-run.ensures in
+    let room = quotes-room _ _ _ _ r.part _ c.quotes_round-mark.ensures (sym c.is_none.ensures ∙ c.if-is_none.false) in
+    record { within = (omega (arith, room), omega (arith, r.part.within)) }
 
 pub returns : goal.returns
 returns c =
-    let run-of-call = c.run_of-r in
-    let quotes-round-call = c.quotes_round in
-    let if1 = c.if-not-quotes_round in
-    record { run = unquoted-run _ _ _ _ run-of-call.ensures.part (λ text pairs. sym (quotes-round-call.ensures text pairs) ∙ if1.false) _ c.run_of.ensures.run; part = unquoted-part _ _ _ _ run-of-call.ensures.part (λ text pairs. sym (quotes-round-call.ensures text pairs) ∙ if1.false) _ c.run_of.ensures.part }
+    let r = c.run_of-run.ensures in
+    let m = c.quotes_round-mark.ensures in
+    let some = sym c.is_none.ensures ∙ c.if-is_none.false in
+    let s = c.run_of.ensures in
+    record { text = unquoted-text _ _ _ _ r.part _ m some _ s.run; part = unquoted-part _ _ _ _ r.part _ m some _ s.part }

@@ -8,6 +8,7 @@ use lib.ListN.{length, get_or}
 use lib.Seq.{sets}
 use borrow.Author.Tests.{eq-eqb, ne_eqb}
 use Rattle.token.specs.declared.Run.{Run}
+use Rattle.token.specs.declared.quotes.QuoteMark.{QuoteMark}
 use Rattle.token.specs.Kind.{attr_ref, dots, hash, percent}
 use Rattle.token.specs.Line.{Token, line_of, token_at}
 use Rattle.runs.specs.Run.{kept, of_kind, of_one, is_hash, is_percent, trim, run_of}
@@ -93,17 +94,17 @@ module _ (kinds : List ℕ) (kind : ℕ) (tag : Tag) (from to : ℕ) (base : Lis
 
 -- ---- ids
 
-module _ (has : Bool) (run : Run) where
-  pub id-empty : run.count ≡ 0 → one_row has (diagnostic 0 3) ≡ id_run has run
+module _ (has : Bool) (run : Run) (m : QuoteMark) where
+  pub id-empty : run.count ≡ 0 → one_row has (diagnostic 0 3) ≡ id_run has run m
   unfolding id_run
   id-empty z = sym (rw (eq-eqb run.count 0 z))
 
   module _ (n : run.count ≡ 0 → ⊥) where
-    pub id-again : has ≡ true → one_row has (diagnostic run.place.0 4) ≡ id_run has run
+    pub id-again : has ≡ true → one_row has (diagnostic run.place.0 4) ≡ id_run has run m
     unfolding id_run
     id-again h = rw (ne_eqb run.count 0 n, h)
 
-    pub id-new : has ≡ false → one_row true (ident run) ≡ id_run has run
+    pub id-new : has ≡ false → one_row true (ident run m) ≡ id_run has run m
     unfolding id_run
     id-new h = sym (rw (ne_eqb run.count 0 n, h))
 

@@ -6,6 +6,7 @@ use mathlib.Core.Path.{◌≡◌, refl, ap, ◌∙◌}
 use mathlib.Core.List.{List, [], ◌∷◌, ◌++◌}
 use lib.ListN.{get_or}
 use Rattle.token.specs.declared.Run.{Run}
+use Rattle.token.specs.declared.quotes.QuoteMark.TheVariants as mark
 use Rattle.token.specs.Kind.{attr_ref}
 use Rattle.token.specs.Line.{Line, Token, token_at}
 use Rattle.runs.specs.Run.{kept, is_hash, is_percent, up_to, onward, trim, run_of}
@@ -93,7 +94,7 @@ last-empty-some ts t us e = rw e (go (is_stop t))
 pub symbol-row : (t : Token) (r : Run) → symbol_row t r ≡ one_run (symbol_tag t.kind) r
 symbol-row t r = go (is_hash t) (is_percent t)
   where
-    go : (a b : Bool) → cond a (ident r) (cond b (option r) (role r)) ≡ one_run (cond a tag.Id (cond b tag.Option tag.Role)) r
+    go : (a b : Bool) → cond a (ident r mark.None) (cond b (option r) (role r)) ≡ one_run (cond a tag.Id (cond b tag.Option tag.Role)) r
     go true b = refl
     go false true = refl
     go false false = refl

@@ -3,6 +3,7 @@ use Rattle.std.specs.Prelude.{suc, ◌+◌, ◌-◌, ◌≤◌, Bool, true, fals
 use Rattle.std.proofs.Common.{arith}
 use Rattle.std.proofs.Math.Dec.{eqb-suc-zero}
 use Rattle.token.specs.declared.Run.{Run}
+use Rattle.token.specs.declared.quotes.QuoteMark.{QuoteMark}
 use Rattle.token.specs.Line.{Token}
 use Rattle.runs.specs.Run.{is_hash, is_whitespace, up_to, onward, trim_start, leave, trim_end, trim, last_of, run_of}
 use Rattle.row.specs.declared.Row.{Row}
@@ -96,15 +97,15 @@ shorthand-few has (p ∷ ps) = go (last_empty p.taken ps) (is_hash p.symbol && h
     go false true h = omega arith
     go false false h = omega (arith, h)
 
-pub id-few : (has : Bool) (ts : List Token) → length (id_read has ts).rows ≤ 1
+pub id-few : (has : Bool) (ts : List Token) (m : QuoteMark) → length (id_read has ts m).rows ≤ 1
 unfolding id_read
-id-few has [] = omega arith
-id-few true (t ∷ ts) = omega arith
-id-few false (t ∷ ts) = omega arith
+id-few has [] m = omega arith
+id-few true (t ∷ ts) m = omega arith
+id-few false (t ∷ ts) m = omega arith
 
 -- ---- an id by the run of its tokens
 
-pub id-by-run : (has : Bool) (ts : List Token) → id_read has ts ≡ id_run has (run_of ts)
+pub id-by-run : (has : Bool) (ts : List Token) (m : QuoteMark) → id_read has ts m ≡ id_run has (run_of ts) m
 unfolding id_read id_run run_of
-id-by-run has [] = refl
-id-by-run has (t ∷ ts) = rw (eqb-suc-zero ((last_of t ts).place - t.place))
+id-by-run has [] m = refl
+id-by-run has (t ∷ ts) m = rw (eqb-suc-zero ((last_of t ts).place - t.place))

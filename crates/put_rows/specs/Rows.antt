@@ -1,6 +1,8 @@
 -- The rows of what an attribute holds (document 01, "One attribute"): shorthand, groups, ids, positionals.
 use Rattle.std.specs.Prelude.{ℕ, Bool, true, false, cond, ◌&&◌, ◌||◌, List, [], ◌∷◌, eqb}
 use Rattle.token.specs.declared.Run.{Run}
+use Rattle.token.specs.declared.quotes.QuoteMark.{QuoteMark}
+use Rattle.token.specs.declared.quotes.QuoteMark.TheVariants as mark
 use Rattle.token.specs.Kind.{hash, percent}
 use Rattle.token.specs.Line.{Line, Token}
 use Rattle.runs.specs.Run.{of_kind, is_dots, is_hash, is_percent, of_one, kept, up_to, trim, run_of}
@@ -39,7 +41,7 @@ pieces (t ∷ ts) =
 
 -- Dots gives a role, Hash an id, Percent an option
 abbrev pub symbol_row : Token → Run → Row
-symbol_row t r = cond (is_hash t) (ident r) (cond (is_percent t) (option r) (role r))
+symbol_row t r = cond (is_hash t) (ident r mark.None) (cond (is_percent t) (option r) (role r))
 
 -- the tag of that row, by the symbol's kind
 abbrev pub symbol_tag : (kind : ℕ) → Tag
@@ -97,16 +99,17 @@ abbrev pub split_rows : Tag → (kind : ℕ) → List Token → List Row
 split_rows t kind ts = group_rows (one_run t) (groups (of_kind kind) ts)
 
 -- "`id` empty is 3; second id is 4 at its first token." 3 is at "place 0, the list's own"
-unfoldable pub id_read : (has : Bool) → List Token → Read
-id_read has [] = one_row has (diagnostic 0 3)
-id_read has (t ∷ ts) = cond has (one_row true (diagnostic t.place 4)) (one_row true (ident (run_of (t ∷ ts))))
+-- `m` is the mark of the quotes that were taken off
+unfoldable pub id_read : (has : Bool) → List Token → (m : QuoteMark) → Read
+id_read has [] m = one_row has (diagnostic 0 3)
+id_read has (t ∷ ts) m = cond has (one_row true (diagnostic t.place 4)) (one_row true (ident (run_of (t ∷ ts)) m))
 
 -- the same by the run of its tokens (law `id-by-run`), for every run
-unfoldable pub id_run : (has : Bool) → Run → Read
-id_run has r = cond (eqb r.count 0) (one_row has (diagnostic 0 3)) (cond has (one_row true (diagnostic r.place.0 4)) (one_row true (ident r)))
+unfoldable pub id_run : (has : Bool) → Run → (m : QuoteMark) → Read
+id_run has r m = cond (eqb r.count 0) (one_row has (diagnostic 0 3)) (cond has (one_row true (diagnostic r.place.0 4)) (one_row true (ident r m)))
 
 -- ---- positionals
 
--- the one row of the tokens kept of the places from `from` up to and without `to`
+-- the one row of the tokens kept of the places from `from` up to and without `to`, off which no quotes were taken
 abbrev pub run_rows : Line → (from to : ℕ) → List Row
-run_rows l from to = positional (run_of (kept l from to)) ∷ []
+run_rows l from to = positional (run_of (kept l from to)) mark.None ∷ []

@@ -11,6 +11,7 @@ use row::Row;
 use row::diagnostic::Diagnostic;
 use row::tag::Tag;
 use runs::places::Places;
+use token::quotes::Unquoted;
 use token::{Run, TokenPlace};
 
 impl Written {
@@ -35,8 +36,8 @@ impl Written {
         self.put_one(rows, Row::one_run(Tag::EmptyPositional, Run::EMPTY))
     }
 
-    // Writes the row of the tokens kept of some places, a positional. One of a run that is known is `Row::one_run` in one line, at each of three places
-    // (`attribute::uncut`, `list_rows::attr_rows`, `attr_list::brackets::read_text`).
+    // Writes the row of the tokens kept of some places, a positional. One of a run that is known is a `Row` in one line: `Row::unquoted` in
+    // `attribute::uncut` and `attr_list::brackets::read_text`, `Row::one_run` in `list_rows::attr_rows`.
     pub fn put_positional(self, rows: &mut [u32], places: Places<'_>) -> Written
         requires few { length places.kinds.now ≤ most_tokens }
         requires room { width * self.rows + width ≤ length rows.old }
@@ -46,15 +47,16 @@ impl Written {
     }
 
     // Writes a row of a name and a value; whether the list has an id is handed on.
-    pub fn put_named(self, rows: &mut [u32], tag: Tag, name: Run, value: Run) -> Written
+    pub fn put_named(self, rows: &mut [u32], tag: Tag, name: Run, value: Unquoted) -> Written
         requires room { width * self.rows + width ≤ length rows.old }
-        requires fits { Fits (two_runs tag name value) }
-        ensures { WroteId rows.old self.rows (one_row self.id (two_runs tag name value)) rows.new result }
+        requires fits { Fits (two_runs tag name value.run value.mark) }
+        ensures { WroteId rows.old self.rows (one_row self.id (two_runs tag name value.run value.mark)) rows.new result }
     {
         let row = Row {
             tag,
             first: name,
-            second: value,
+            second: value.run,
+            mark: value.mark,
         };
         self.put_one(rows, row)
     }
@@ -73,22 +75,22 @@ impl Written {
     }
 
     // Writes the row of an id, or what is wrong with it.
-    pub fn put_id(self, rows: &mut [u32], run: Run) -> Written
+    pub fn put_id(self, rows: &mut [u32], id: Unquoted) -> Written
         requires room { width * self.rows + width ≤ length rows.old }
-        requires small_place { small run.place.0 }
-        requires small_count { small run.count }
-        ensures { WroteId rows.old self.rows (id_run self.id run) rows.new result }
+        requires small_place { small id.run.place.0 }
+        requires small_count { small id.run.count }
+        ensures { WroteId rows.old self.rows (id_run self.id id.run id.mark) rows.new result }
     {
-        if run.count == 0 {
+        if id.run.count == 0 {
             return self.put_diagnostic(rows, TokenPlace(0), Diagnostic::InvalidEmptyIdAttribute);
         }
         if self.id {
-            return self.put_diagnostic(rows, run.place, Diagnostic::MoreThanOneIdAttribute);
+            return self.put_diagnostic(rows, id.run.place, Diagnostic::MoreThanOneIdAttribute);
         }
         let first = Written {
             rows: self.rows,
             id: true,
         };
-        first.put_one(rows, Row::one_run(Tag::Id, run))
+        first.put_one(rows, Row::unquoted(Tag::Id, id))
     }
 }

@@ -35,7 +35,7 @@ module _ (base : List ℕ) (from : ℕ) (all : List Row) where
   pub writes-put : (now : List ℕ) (at : ℕ) (r : Row) (rest : List Row) → Writes base from all now at (r ∷ rest) → Writes base from all (sets now (width * at) (numbers r)) (at + 1) rest
   unfolding with_rows all_numbers
   writes-put now at r rest w =
-      let e : width * (at + 1) ≡ width * at + 5 = omega arith in
+      let e : width * (at + 1) ≡ width * at + width = omega arith in
       record {
         long = length-sets now (width * at) (numbers r) ∙ w.long;
         count = omega (arith, w.count);

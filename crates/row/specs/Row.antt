@@ -1,39 +1,47 @@
--- Rows (document 01, "The line, the rows, the set").
+-- Rows (document 01, "The line, the rows, the set"; document 02, slip 2).
 use Rattle.std.specs.Prelude.{ℕ, ◌+◌, ◌*◌, ◌<◌, Bool, ◌≡◌, List, [], ◌∷◌, ◌++◌, leb, length}
 use Rattle.std.proofs.lemmas.List.Edits.{sets}
 use Rattle.token.specs.declared.Run.{Run}
+use Rattle.token.specs.declared.quotes.QuoteMark.{QuoteMark}
+use Rattle.token.specs.declared.quotes.QuoteMark.TheVariants as mark
 use Rattle.token.specs.Line.{run, empty_run}
+use Rattle.token.specs.Quotes.{mark_number}
 use Rattle.row.specs.declared.Row.{Row}
 use Rattle.row.specs.declared.tag.Tag.{Tag}
 use Rattle.row.specs.declared.tag.Tag.TheVariants as tag
 use Rattle.row.specs.Tag.{tag_number}
 
--- "A row is five numbers: tag, then two runs, unused ones 0."
+-- "tag, then two runs, unused ones 0"; "A row becomes six numbers, the last being this mark for tags 2, 3, 4 and 8 where the run went through
+-- unquoting, and 0 in all other rows." The mark is the number of the quotes that were taken off.
 abbrev pub width : ℕ
-width = 5
+width = 6
 
 abbrev pub numbers : Row → List ℕ
-numbers r = tag_number r.tag ∷ r.first.place.0 ∷ r.first.count ∷ r.second.place.0 ∷ r.second.count ∷ []
+numbers r = tag_number r.tag ∷ r.first.place.0 ∷ r.first.count ∷ r.second.place.0 ∷ r.second.count ∷ mark_number r.mark ∷ []
 
-abbrev pub two_runs : Tag → (first second : Run) → Row
-two_runs t a b = record { tag = t; first = a; second = b }
+abbrev pub two_runs : Tag → (first second : Run) → QuoteMark → Row
+two_runs t a b m = record { tag = t; first = a; second = b; mark = m }
+
+-- a row of one run with its mark, and of one off which no quotes were taken
+abbrev pub marked_run : Tag → Run → QuoteMark → Row
+marked_run t r = two_runs t r empty_run
 
 abbrev pub one_run : Tag → Run → Row
-one_run t r = two_runs t r empty_run
+one_run t r = marked_run t r mark.None
 
 -- "Tags: 1 empty positional; 2 positional run; 3 named, name then value, value under `attr_value`; 4 id; 5 role; 6 option; 7 diagnostic (place,
 -- number, 0, 0); 8 named `subs` or `cols`, value under `none`."
 abbrev pub empty_positional : Row
 empty_positional = one_run tag.EmptyPositional empty_run
 
-abbrev pub positional : Run → Row
-positional = one_run tag.Positional
+abbrev pub positional : Run → QuoteMark → Row
+positional = marked_run tag.Positional
 
-abbrev pub named : (name value : Run) → Row
+abbrev pub named : (name value : Run) → QuoteMark → Row
 named = two_runs tag.Named
 
-abbrev pub ident : Run → Row
-ident = one_run tag.Id
+abbrev pub ident : Run → QuoteMark → Row
+ident = marked_run tag.Id
 
 abbrev pub role : Run → Row
 role = one_run tag.Role
@@ -44,14 +52,14 @@ option = one_run tag.Option
 abbrev pub diagnostic : (place number : ℕ) → Row
 diagnostic p n = one_run tag.Diagnostic (run p n)
 
-abbrev pub plain : (name value : Run) → Row
+abbrev pub plain : (name value : Run) → QuoteMark → Row
 plain = two_runs tag.Plain
 
 -- the numbers of the tags of these rows, in this order
 abbrev pub tags : List ℕ
 tags =
-    tag_number empty_positional.tag ∷ tag_number (positional empty_run).tag ∷ tag_number (named empty_run empty_run).tag ∷ tag_number (ident empty_run).tag ∷ tag_number (role empty_run).tag
-    ∷ tag_number (option empty_run).tag ∷ tag_number (diagnostic 0 0).tag ∷ tag_number (plain empty_run empty_run).tag ∷ []
+    tag_number tag.EmptyPositional ∷ tag_number tag.Positional ∷ tag_number tag.Named ∷ tag_number tag.Id ∷ tag_number tag.Role ∷ tag_number tag.Option
+    ∷ tag_number tag.Diagnostic ∷ tag_number tag.Plain ∷ []
 
 -- the numbers of some rows, one row after the other
 unfoldable pub all_numbers : List Row → List ℕ
@@ -67,7 +75,7 @@ pub record Wrote (before : List ℕ) (at : ℕ) (rs : List Row) (after : List �
   pub count : r ≡ at + length rs
   pub buffer : after ≡ with_rows before at rs
 
--- refusal 7 is for a row buffer "under 5 × tokens"; this is its opposite, for a buffer of `room` numbers
+-- refusal 7 is for a row buffer "under 6 × tokens"; this is its opposite, for a buffer of `room` numbers
 abbrev pub room_for : (tokens room : ℕ) → Bool
 room_for tokens room = leb (width * tokens) room
 

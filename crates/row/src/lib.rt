@@ -3,25 +3,27 @@
 
 ghost use Rattle.std.specs.Prelude.{◌≡◌, ◌+◌, ◌*◌, ◌≤◌, length};
 ghost use Rattle.std.proofs.lemmas.List.Edits.{sets};
-ghost use Rattle.row.specs.Row.{width, numbers, one_run, room_for, Fits};
+ghost use Rattle.row.specs.Row.{width, numbers, marked_run, one_run, room_for, Fits};
 
 use tag::Tag;
 use token::Run;
+use token::quotes::{QuoteMark, Unquoted};
 
 pub mod diagnostic;
 pub mod tag;
 
 // How many numbers a row has.
-pub const WIDTH: usize = 5;
+pub const WIDTH: usize = 6;
 
-// A row: its tag, then two runs; an unused run is empty. Two runs whatever the tag, and no enum that gives each tag its own: document 01 says of each tag
-// what the two runs of its row are, and the buffer has both. That its numbers fit the buffer's is no fact of the type, since the rules make rows of any
-// runs: `Fits` stands in the contracts.
+// A row: its tag, then two runs; an unused run is empty; then which quotes were taken off the last run that is used, if that was unquoted. Two runs whatever
+// the tag, and no enum that gives each tag its own: document 01 says of each tag what the two runs of its row are, and the buffer has both. That its numbers
+// fit the buffer's is no fact of the type, since the rules make rows of any runs: `Fits` stands in the contracts.
 #[derive(Clone, Copy, Debug, PartialEq, Eq)]
 pub struct Row {
     pub tag: Tag,
     pub first: Run,
     pub second: Run,
+    pub mark: QuoteMark,
 }
 
 // The width of a row, for callers that size a buffer.
@@ -39,15 +41,24 @@ pub fn has_room(room: usize, tokens: usize) -> bool
 }
 
 impl Row {
-    // A row of one run.
-    pub fn one_run(tag: Tag, run: Run) -> Row
-        ensures { result ≡ one_run tag run }
+    // A row of one run that went through unquoting.
+    pub fn unquoted(tag: Tag, text: Unquoted) -> Row
+        ensures { result ≡ marked_run tag text.run text.mark }
     {
         Row {
             tag,
-            first: run,
+            first: text.run,
             second: Run::EMPTY,
+            mark: text.mark,
         }
+    }
+
+    // A row of one run off which no quotes were taken.
+    pub fn one_run(tag: Tag, run: Run) -> Row
+        ensures { result ≡ one_run tag run }
+    {
+        let mark = QuoteMark::None;
+        Row::unquoted(tag, Unquoted { run, mark })
     }
 
     // Writes it as row `at` of the buffer; every other number keeps what it had. Number by number: as one array by `copy_from_slice`, which asks whether the
@@ -63,5 +74,6 @@ impl Row {
         rows[i + 2] = self.first.count as u32;
         rows[i + 3] = self.second.place.0 as u32;
         rows[i + 4] = self.second.count as u32;
+        rows[i + 5] = u32::from(self.mark);
     }
 }

@@ -1,3 +1,4 @@
 pub mod Sights
 pub mod Values
 pub mod Irs
+pub mod RequotedLaws

@@ -16,12 +16,12 @@ pub record InLine (kinds : List ℕ) (from to : ℕ) (r : Run) : Type 0 where
 
 -- each run of an attribute
 abbrev pub Bounded : (kinds : List ℕ) (from to : ℕ) → AttrIr → Type 0
-Bounded kinds from to (Positional r cut) = InLine kinds from to r
-Bounded kinds from to (Named name value) = InLine kinds from to name × InLine kinds from to value
-Bounded kinds from to (Plain name value) = InLine kinds from to name × InLine kinds from to value
+Bounded kinds from to (Positional t cut) = InLine kinds from to t.run
+Bounded kinds from to (Named name value) = InLine kinds from to name × InLine kinds from to value.run
+Bounded kinds from to (Plain name value) = InLine kinds from to name × InLine kinds from to value.run
 Bounded kinds from to (Options r) = InLine kinds from to r
 Bounded kinds from to (Roles r) = InLine kinds from to r
-Bounded kinds from to (Id r) = InLine kinds from to r
+Bounded kinds from to (Id t) = InLine kinds from to t.run
 Bounded kinds from to (Shorthand r) = InLine kinds from to r
 
 -- the outcome of a call that reads the tokens kept from..to by f: the runs of what f gives, whose tokens are those that f gives, and where they stand

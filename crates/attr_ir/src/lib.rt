@@ -1,17 +1,17 @@
 // What an attribute is: its reading decided from the left, and its runs.
 #![tactic(auto)]
 
-ghost use Rattle.std.specs.Prelude.{◌≡◌, ◌&&◌, ◌||◌, not, eqb};
+ghost use Rattle.std.specs.Prelude.{◌≡◌, ◌&&◌, ◌||◌, eqb};
 ghost use Rattle.token.specs.Kind.{dots, hash, percent};
+ghost use Rattle.token.specs.Quotes.{mark_number};
 ghost use Rattle.token.specs.Checked.{line_in};
-ghost use Rattle.runs.specs.Run.{quoted};
-ghost use Rattle.runs.specs.Kept.{OfKept};
 ghost use Rattle.attr_ir.specs.Ir.{attr_ir};
 ghost use Rattle.attr_ir.specs.Places.{IrOf};
 
-use runs::places::{Places, Tokens};
+use runs::places::Tokens;
 use token::Run;
 use token::kind::TokenKind;
+use token::quotes::{QuoteMark, Unquoted};
 
 mod look;
 mod naming;
@@ -36,15 +36,15 @@ pub enum Name {
 }
 
 // An attribute by its runs. `cut` says whether a positional is to be cut, as the definition `Ir.positional` has it: a flag and no case of its own, since what
-// takes an attribute by its runs, `put_ir` and the definitions `runs_of` and `tokens_of`, takes a positional whole; `run_to_cut` alone asks for the flag.
+// takes an attribute by its runs, `put_ir` and the definitions `runs_of` and `tokens_of`, takes a positional whole; `text_to_cut` alone asks for the flag.
 #[derive(Clone, Copy, PartialEq, Eq)]
 pub enum AttrIr {
-    Positional { run: Run, cut: bool },
-    Named { name: Run, value: Run },
-    Plain { name: Run, value: Run },
+    Positional { text: Unquoted, cut: bool },
+    Named { name: Run, value: Unquoted },
+    Plain { name: Run, value: Unquoted },
     Options(Run),
     Roles(Run),
-    Id(Run),
+    Id(Unquoted),
     Shorthand(Run),
 }
 
@@ -58,12 +58,11 @@ pub fn symbol_kind(kind: u8) -> bool
     )
 }
 
-// Whether a positional is to be cut, of the tokens kept of some places: it is asked for, and no quotes are taken. Most are not asked to be cut, and
-// their ends are then not looked for.
-fn to_cut(places: Places<'_>, asked: bool) -> bool
-    ensures { OfKept (λ ts. asked && not (quoted ts)) places.entry result }
+// Whether a positional is to be cut: its note is yes, it is the block entry, and no quotes were taken.
+fn to_cut(noted: bool, block: bool, mark: QuoteMark) -> bool
+    ensures { result ≡ (noted && block && eqb (mark_number mark) 0) }
 {
-    asked && !places.quoted()
+    noted && block && mark.is_none()
 }
 
 // An attribute by its runs, of the tokens kept, which are trimmed; `block` says that the entry is the block entry. A bool here and in all that this calls or
@@ -76,10 +75,10 @@ pub fn attr_ir(tokens: Tokens<'_>, block: bool) -> AttrIr
     match look::look(tokens, block) {
         Reading::Shorthand => AttrIr::Shorthand(places.run_of()),
         Reading::Positional(noted) => {
-            let asked = noted && block;
+            let text = places.unquote();
             AttrIr::Positional {
-                run: places.unquote(),
-                cut: to_cut(places, asked),
+                text,
+                cut: to_cut(noted, block, text.mark),
             }
         }
         Reading::Named => naming::parse_key_value_attr(tokens),

@@ -1,16 +1,17 @@
 // A named attribute: its name, what the name asks for, and its value.
 ghost use Rattle.std.specs.Prelude.{◌≡◌};
 ghost use Rattle.token.specs.Checked.{line_in};
-ghost use Rattle.runs.specs.Run.{is_whitespace, without, kept, run_of};
+ghost use Rattle.runs.specs.Run.{is_whitespace, without, kept, unquoted, run_of};
 ghost use Rattle.runs.specs.Kept.{OfKept};
 ghost use Rattle.runs.specs.Names.{bytes};
-ghost use Rattle.runs.specs.Places.{Part};
-ghost use Rattle.attr_ir.specs.Ir.{value, name_of, key_value_ir};
+ghost use Rattle.runs.specs.Places.{Narrowed, Part};
+ghost use Rattle.attr_ir.specs.Ir.{less_space, value, name_of, key_value_ir};
 ghost use Rattle.attr_ir.specs.Places.{InLine, IrOf};
 
 use super::{AttrIr, Name};
 use runs::places::{Places, Tokens};
 use token::kind::TokenKind;
+use token::quotes::Unquoted;
 use token::{Run, TokenPlace};
 
 // What the name of the tokens kept asks for.
@@ -33,27 +34,30 @@ fn name_of(tokens: Tokens<'_>) -> Name
     Name::Other
 }
 
-// The run of a value: one Whitespace dropped, unquoted. Not inlined: it has two copies of `unquote`.
-#[inline(never)]
-fn value_run(places: Places<'_>) -> Run
-    ensures run { OfKept (λ ts. run_of (value ts)) places.entry result }
-    ensures part { Part value places.entry.kinds.now places.entry.from.0 places.entry.to.0 result }
+// The place past one Whitespace in front, or that of the first token kept, or `to` where there is none.
+fn past_space(places: Places<'_>) -> TokenPlace
+    ensures { Narrowed less_space places.entry.kinds.now places.entry.from.0 places.entry.to.0 result.0 places.entry.to.0 }
 {
     let start = places.first_kept();
     if start.0 < places.to.0 && places.kinds[start.0] == TokenKind::Whitespace as u8 {
-        let rest = Places {
-            kinds: places.kinds,
-            from: TokenPlace(start.0 + 1),
-            to: places.to,
-        };
-        return rest.unquote();
+        return TokenPlace(start.0 + 1);
     }
-    let all = Places {
+    start
+}
+
+// A value: one Whitespace dropped, unquoted. Inlined: a function of its own answers run and mark through memory, and the mix of docs/BENCHMARK.md took 1.1
+// times as long.
+#[inline(always)]
+fn value_of(places: Places<'_>) -> Unquoted
+    ensures text { OfKept (λ ts. unquoted (less_space ts)) places.entry result }
+    ensures part { Part value places.entry.kinds.now places.entry.from.0 places.entry.to.0 result.run }
+{
+    let rest = Places {
         kinds: places.kinds,
-        from: start,
+        from: past_space(places),
         to: places.to,
     };
-    all.unquote()
+    rest.unquote()
 }
 
 // The run of a name, less Whitespace: Whitespace inside it does not change its run.
@@ -79,10 +83,10 @@ pub(crate) fn parse_key_value_attr(tokens: Tokens<'_>) -> AttrIr
         from: TokenPlace(tokens.to.0.min(equals.0 + 1)),
         to: tokens.to,
     };
-    let value = value_run(after);
+    let value = value_of(after);
     match name_of(before) {
-        Name::Options => AttrIr::Options(value),
-        Name::Role => AttrIr::Roles(value),
+        Name::Options => AttrIr::Options(value.run),
+        Name::Role => AttrIr::Roles(value.run),
         Name::Id => AttrIr::Id(value),
         Name::Plain => AttrIr::Plain {
             name: name_run(before),

@@ -7,8 +7,10 @@ use Rattle.std.proofs.Math.Bool.{true, false, not}
 use Rattle.std.proofs.Math.Path.{refl, ap}
 use mathlib.Core.List.{List, [], ◌∷◌}
 use Rattle.std.proofs.Math.ListN.{length}
+use Rattle.token.specs.declared.quotes.QuoteMark.{QuoteMark}
+use Rattle.token.specs.declared.quotes.QuoteMark.TheVariants as mark
 use Rattle.token.specs.Line.{Token}
-use Rattle.runs.specs.Run.{is_comma, is_whitespace, is_equals, of_one, up_to, onward, trim, quoted, inside, front, unquote}
+use Rattle.runs.specs.Run.{is_comma, is_whitespace, is_equals, of_one, up_to, onward, trim, quote_mark, quoted, inside, front, unquote}
 use Rattle.runs.proofs.KeptLaws.{onward-later, unquote-plain}
 use Rattle.row.specs.Row.{positional}
 use Rattle.attr_ir.specs.declared.Reading.{Reading}
@@ -17,7 +19,7 @@ use Rattle.std.specs.declared.ops.ControlFlow.TheVariants.{Break, Continue}
 use Rattle.attr_ir.specs.declared.Name.{Name}
 use Rattle.attr_ir.specs.declared.Name.TheVariants as asks
 use Rattle.attr_ir.specs.Look.{is_symbol, is_quote, next_equals, symbol_sight, sight, decided, look}
-use Rattle.attr_ir.specs.Ir.{shorthand, name_tokens, less_first, less_space, value, value_tokens, name_of, named_ir, key_value_ir, ir_as, attr_ir}
+use Rattle.attr_ir.specs.Ir.{shorthand, name_tokens, less_first, less_space, value, value_mark, after_equals, value_tokens, name_of, named_ir, key_value_ir, ir_as, attr_ir}
 use Rattle.attr_ir.specs.Ir as is
 use Rattle.put_rows.specs.Rows.{Read, row_first, pieces}
 use Rattle.put_rows.proofs.RowsLaws.{cut-length, trim-length, onward-length, group-few, pieces-few, shorthand-few, id-few}
@@ -34,7 +36,7 @@ front_length u (v ∷ vs) = omega (arith, front_length v vs)
 -- ---- two readings of tails that agree on each list shorter than ts give ts the same rows
 
 quoted-shorter : (ts : List Token) → length (unquote ts) ≤ length ts
-unfolding unquote quoted inside
+unfolding unquote quoted quote_mark inside
 quoted-shorter [] = omega arith
 quoted-shorter (t ∷ []) = omega arith
 quoted-shorter (t ∷ u ∷ us) = go (quoted (t ∷ u ∷ us)) (front_length u us)
@@ -48,19 +50,19 @@ module _ (f g : List Token → Read) (has : Bool) (n : ℕ) (same : (tail : List
   unfolding cut_read
   cut-same [] [] e = refl
   cut-same [] (t ∷ us) e = refl
-  cut-same (t ∷ us) tail e = ap (row_first (positional _)) (same tail (omega (arith, e)))
+  cut-same (t ∷ us) tail e = ap (row_first (positional _ mark.None)) (same tail (omega (arith, e)))
 
-  positional-same : (ts : List Token) (cut : Bool) → length ts ≤ n → ir_read f has (is.positional ts cut) ≡ ir_read g has (is.positional ts cut)
+  positional-same : (ts : List Token) (m : QuoteMark) (cut : Bool) → length ts ≤ n → ir_read f has (is.positional ts m cut) ≡ ir_read g has (is.positional ts m cut)
   unfolding ir_read
-  positional-same ts cut h = rw (cut-same (up_to is_symbol ts) (onward is_symbol ts) (omega (arith, cut-length is_symbol ts)))
+  positional-same ts m cut h = rw (cut-same (up_to is_symbol ts) (onward is_symbol ts) (omega (arith, cut-length is_symbol ts)))
 
-  named-same : (a : Name) (name value : List Token) → ir_read f has (named_ir a name value) ≡ ir_read g has (named_ir a name value)
+  named-same : (a : Name) (name value : List Token) (m : QuoteMark) → ir_read f has (named_ir a name value m) ≡ ir_read g has (named_ir a name value m)
   unfolding ir_read named_ir
-  named-same asks.Options name value = refl
-  named-same asks.Role name value = refl
-  named-same asks.Id name value = refl
-  named-same asks.Plain name value = refl
-  named-same asks.Other name value = refl
+  named-same asks.Options name value m = refl
+  named-same asks.Role name value m = refl
+  named-same asks.Id name value m = refl
+  named-same asks.Plain name value m = refl
+  named-same asks.Other name value m = refl
 
   shorthand-same : (ts : List Token) → ir_read f has (shorthand ts) ≡ ir_read g has (shorthand ts)
   unfolding ir_read
@@ -69,8 +71,8 @@ module _ (f g : List Token → Read) (has : Bool) (n : ℕ) (same : (tail : List
   as_same : (block : Bool) (ts : List Token) → length ts ≤ n → (r : Reading) → ir_read f has (ir_as block ts r) ≡ ir_read g has (ir_as block ts r)
   unfolding ir_as key_value_ir
   as_same block ts h Shorthand = shorthand-same ts
-  as_same block ts h (Positional noted) = positional-same (unquote ts) (noted && block && not (quoted ts)) (omega (arith, quoted-shorter ts))
-  as_same block ts h Named = named-same (name_of (Rattle.runs.specs.Names.bytes (name_tokens ts))) (name_tokens ts) (value_tokens ts)
+  as_same block ts h (Positional noted) = positional-same (unquote ts) (quote_mark ts) (noted && block && not (quoted ts)) (omega (arith, quoted-shorter ts))
+  as_same block ts h Named = named-same (name_of (Rattle.runs.specs.Names.bytes (name_tokens ts))) (name_tokens ts) (value_tokens ts) (value_mark (after_equals ts))
 
 reading-same : (f g : List Token → Read) (block has : Bool) (ts : List Token) → ((tail : List Token) → length tail < length ts → f tail ≡ g tail) → reading f block has ts ≡ reading g block has ts
 unfolding reading attr_ir
@@ -127,44 +129,44 @@ noted-symbol block ts f e =
     let g : true ≡ false = no_symbol block true false true ts e f in
     suc-ne-zero 0 cc
 
--- a positional that is cut has the tokens it was made of
-cut-tokens : (block : Bool) (ts us : List Token) → attr_ir block ts ≡ is.positional us true → (us ≡ ts) × (look block true false ts ≡ Positional true)
+-- a positional that is cut has the tokens it was made of, and stands in the block entry
+pub cut-tokens : (block : Bool) (ts us : List Token) (m : QuoteMark) → attr_ir block ts ≡ is.positional us m true → (us ≡ ts) × ((look block true false ts ≡ Positional true) × (block ≡ true))
 unfolding attr_ir ir_as key_value_ir named_ir
-cut-tokens block ts us e = go (look block true false ts) refl e
+cut-tokens block ts us m e = go (look block true false ts) refl e
   where
-    flags : (n b q : Bool) → (n && b && not q) ≡ true → (n ≡ true) × (q ≡ false)
+    flags : (n b q : Bool) → (n && b && not q) ≡ true → (n ≡ true) × ((b ≡ true) × (q ≡ false))
     flags true true true e = absurd (suc-ne-zero 0 cc)
-    flags true true false e = (refl, refl)
+    flags true true false e = (refl, (refl, refl))
     flags true false q e = absurd (suc-ne-zero 0 cc)
     flags false b q e = absurd (suc-ne-zero 0 cc)
 
-    name : (a : Name) (n v : List Token) → named_ir a n v ≡ is.positional us true → (us ≡ ts) × (look block true false ts ≡ Positional true)
-    name asks.Options n v e = absurd (suc-ne-zero 0 cc)
-    name asks.Role n v e = absurd (suc-ne-zero 0 cc)
-    name asks.Id n v e = absurd (suc-ne-zero 0 cc)
-    name asks.Plain n v e = absurd (suc-ne-zero 0 cc)
-    name asks.Other n v e = absurd (suc-ne-zero 0 cc)
+    name : (a : Name) (n v : List Token) (k : QuoteMark) → named_ir a n v k ≡ is.positional us m true → (us ≡ ts) × ((look block true false ts ≡ Positional true) × (block ≡ true))
+    name asks.Options n v k e = absurd (suc-ne-zero 0 cc)
+    name asks.Role n v k e = absurd (suc-ne-zero 0 cc)
+    name asks.Id n v k e = absurd (suc-ne-zero 0 cc)
+    name asks.Plain n v k e = absurd (suc-ne-zero 0 cc)
+    name asks.Other n v k e = absurd (suc-ne-zero 0 cc)
 
-    go : (r : Reading) → look block true false ts ≡ r → ir_as block ts r ≡ is.positional us true → (us ≡ ts) × (look block true false ts ≡ Positional true)
+    go : (r : Reading) → look block true false ts ≡ r → ir_as block ts r ≡ is.positional us m true → (us ≡ ts) × ((look block true false ts ≡ Positional true) × (block ≡ true))
     go Shorthand f e = absurd (suc-ne-zero 0 cc)
     go (Positional n) f e =
         let same : unquote ts ≡ us = cc in
         let cut : (n && block && not (quoted ts)) ≡ true = cc in
         let w = flags n block (quoted ts) cut in
-        (sym same ∙ unquote-plain ts w.1, f ∙ ap Positional w.0)
-    go Named f e = name (name_of (Rattle.runs.specs.Names.bytes (name_tokens ts))) (name_tokens ts) (value_tokens ts) e
+        (sym same ∙ unquote-plain ts w.1.1, (f ∙ ap Positional w.0, w.1.0))
+    go Named f e = name (name_of (Rattle.runs.specs.Names.bytes (name_tokens ts))) (name_tokens ts) (value_tokens ts) (value_mark (after_equals ts)) e
 
 -- so a cut always finds its symbol, and the cases of `cut_read` with no tail are never read
-pub cut-has-symbol : (block : Bool) (ts us : List Token) → attr_ir block ts ≡ is.positional us true → onward is_symbol us ≡ [] → ⊥
-cut-has-symbol block ts us e f =
-    let w = cut-tokens block ts us e in
-    noted-symbol block ts w.1 (ap (onward is_symbol) (sym w.0) ∙ f)
+pub cut-has-symbol : (block : Bool) (ts us : List Token) (m : QuoteMark) → attr_ir block ts ≡ is.positional us m true → onward is_symbol us ≡ [] → ⊥
+cut-has-symbol block ts us m e f =
+    let w = cut-tokens block ts us m e in
+    noted-symbol block ts w.1.0 (ap (onward is_symbol) (sym w.0) ∙ f)
 
-ir-as : (block : Bool) (ts : List Token) (r : Reading) → look block true false ts ≡ r → attr_ir block ts ≡ ir_as block ts r
+pub ir-as : (block : Bool) (ts : List Token) (r : Reading) → look block true false ts ≡ r → attr_ir block ts ≡ ir_as block ts r
 unfolding attr_ir
 ir-as block ts r e = ap (ir_as block ts) e
 
--- ---- "an attribute of n tokens gives at most max(1, n) rows": why 5 × tokens is room enough
+-- ---- "an attribute of n tokens gives at most max(1, n) rows": why a row for each token is room enough
 
 or-one : (n : ℕ) → (n ≤ or_one n) × (1 ≤ or_one n)
 or-one zero = (omega arith, omega arith)
@@ -199,28 +201,28 @@ module _ (f : List Token → Read) (few : (tail : List Token) → length (f tail
   cut-few (t ∷ ts) [] none = absurd (none refl)
   cut-few (t ∷ ts) (u ∷ us) none = omega (arith, few (u ∷ us), (or-one (length (t ∷ ts) + length (u ∷ us))).0)
 
-  named-few : (a : Name) (name value : List Token) (n : ℕ) → length value ≤ n → length (ir_read f has (named_ir a name value)).rows ≤ or_one n
+  named-few : (a : Name) (name value : List Token) (m : QuoteMark) (n : ℕ) → length value ≤ n → length (ir_read f has (named_ir a name value m)).rows ≤ or_one n
   unfolding ir_read named_ir
-  named-few asks.Options name value n h = omega (arith, group-few Rattle.row.specs.Row.option is_comma value, h, (or-one n).0)
-  named-few asks.Role name value n h = omega (arith, group-few Rattle.row.specs.Row.role is_whitespace value, h, (or-one n).0)
-  named-few asks.Id name value n h = omega (arith, id-few has value, (or-one n).1)
-  named-few asks.Plain name value n h = (or-one n).1
-  named-few asks.Other name value n h = (or-one n).1
+  named-few asks.Options name value m n h = omega (arith, group-few Rattle.row.specs.Row.option is_comma value, h, (or-one n).0)
+  named-few asks.Role name value m n h = omega (arith, group-few Rattle.row.specs.Row.role is_whitespace value, h, (or-one n).0)
+  named-few asks.Id name value m n h = omega (arith, id-few has value m, (or-one n).1)
+  named-few asks.Plain name value m n h = (or-one n).1
+  named-few asks.Other name value m n h = (or-one n).1
 
-  positional-few : (us : List Token) (cut : Bool) (n : ℕ) → length us ≤ n → (cut ≡ true → onward is_symbol us ≡ [] → ⊥) → length (ir_read f has (is.positional us cut)).rows ≤ or_one n
+  positional-few : (us : List Token) (m : QuoteMark) (cut : Bool) (n : ℕ) → length us ≤ n → (cut ≡ true → onward is_symbol us ≡ [] → ⊥) → length (ir_read f has (is.positional us m cut)).rows ≤ or_one n
   unfolding ir_read
-  positional-few us true n h none =
+  positional-few us m true n h none =
       let e : or_one (length (up_to is_symbol us) + length (onward is_symbol us)) ≤ or_one n = or-one-more (length (up_to is_symbol us) + length (onward is_symbol us)) n (omega (arith, cut-length is_symbol us)) in
       omega (arith, cut-few (up_to is_symbol us) (onward is_symbol us) (none refl), e)
-  positional-few us false n h none = (or-one n).1
+  positional-few us m false n h none = (or-one n).1
 
   as-few : (block : Bool) (ts : List Token) (r : Reading) → look block true false ts ≡ r → length (ir_read f has (ir_as block ts r)).rows ≤ or_one (length ts)
   unfolding ir_read ir_as key_value_ir
   as-few block ts Shorthand e = omega (arith, shorthand-few has (pieces ts), pieces-few ts, (or-one (length ts)).0)
   as-few block ts (Positional n) e =
-      positional-few (unquote ts) (n && block && not (quoted ts)) (length ts) (quoted-shorter ts)
-      (λ c g. cut-has-symbol block ts (unquote ts) (ir-as block ts (Positional n) e ∙ ap (is.positional (unquote ts)) c) g)
-  as-few block ts Named e = named-few (name_of (Rattle.runs.specs.Names.bytes (name_tokens ts))) (name_tokens ts) (value_tokens ts) (length ts) (value-few ts)
+      positional-few (unquote ts) (quote_mark ts) (n && block && not (quoted ts)) (length ts) (quoted-shorter ts)
+      (λ c g. cut-has-symbol block ts (unquote ts) (quote_mark ts) (ir-as block ts (Positional n) e ∙ ap (is.positional (unquote ts) (quote_mark ts)) c) g)
+  as-few block ts Named e = named-few (name_of (Rattle.runs.specs.Names.bytes (name_tokens ts))) (name_tokens ts) (value_tokens ts) (value_mark (after_equals ts)) (length ts) (value-few ts)
 
 reading-few : (f : List Token → Read) → ((tail : List Token) → length (f tail).rows ≤ or_one (length tail)) → (block has : Bool) (ts : List Token) → length (reading f block has ts).rows ≤ or_one (length ts)
 unfolding reading attr_ir

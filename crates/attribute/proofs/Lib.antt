@@ -4,3 +4,4 @@ pub mod SymbolKinds
 pub mod Outcomes
 pub mod Whole
 pub mod Runs
+pub mod MarkLaws

@@ -9,11 +9,13 @@ use types.Run.{OneOf}
 use lib.Dec.{eqb}
 use lib.ListN.{length}
 use Rattle.token.specs.declared.Run.{Run}
+use Rattle.token.specs.declared.quotes.Unquoted.{Unquoted}
 use Rattle.token.specs.Line.{Line, Token}
+use Rattle.token.specs.Quotes.{marked}
 use Rattle.runs.specs.Run.{is_comma, is_whitespace, run_of, in_run}
 use Rattle.row.specs.declared.Row.{Row}
 use Rattle.row.specs.declared.tag.Tag.TheVariants as tag
-use Rattle.row.specs.Row.{one_run, named, plain, ident, role, option, diagnostic}
+use Rattle.row.specs.Row.{marked_run, named, plain, ident, role, option, diagnostic}
 use Rattle.attr_ir.specs.declared.AttrIr.{AttrIr}
 use Rattle.attr_ir.specs.declared.AttrIr.TheVariants as ir
 use Rattle.attr_ir.specs.Ir.{runs_of, tokens_of}
@@ -33,21 +35,21 @@ in-line kinds a b r w h = record { within = omega (arith, w.within); few = omega
 
 module _ (kinds : List ℕ) (a b : ℕ) where
   pub bounded-in : (i : AttrIr) → Bounded kinds a b i → b ≤ length kinds → Bounded kinds 0 (length kinds) i
-  bounded-in (ir.Positional r cut) w h = in-line kinds a b r w h
-  bounded-in (ir.Named n v) w h = (in-line kinds a b n w.0 h, in-line kinds a b v w.1 h)
-  bounded-in (ir.Plain n v) w h = (in-line kinds a b n w.0 h, in-line kinds a b v w.1 h)
+  bounded-in (ir.Positional t cut) w h = in-line kinds a b t.run w h
+  bounded-in (ir.Named n v) w h = (in-line kinds a b n w.0 h, in-line kinds a b v.run w.1 h)
+  bounded-in (ir.Plain n v) w h = (in-line kinds a b n w.0 h, in-line kinds a b v.run w.1 h)
   bounded-in (ir.Options r) w h = in-line kinds a b r w h
   bounded-in (ir.Roles r) w h = in-line kinds a b r w h
-  bounded-in (ir.Id r) w h = in-line kinds a b r w h
+  bounded-in (ir.Id t) w h = in-line kinds a b t.run w h
   bounded-in (ir.Shorthand r) w h = in-line kinds a b r w h
 
   pub most-few : (i : AttrIr) → Bounded kinds a b i → most_rows i ≤ b - a + 1
-  most-few (ir.Positional r cut) w = omega arith
+  most-few (ir.Positional t cut) w = omega arith
   most-few (ir.Named n v) w = omega arith
   most-few (ir.Plain n v) w = omega arith
   most-few (ir.Options r) w = omega (arith, w.few)
   most-few (ir.Roles r) w = omega (arith, w.few)
-  most-few (ir.Id r) w = omega arith
+  most-few (ir.Id t) w = omega arith
   most-few (ir.Shorthand r) w = omega (arith, w.few)
 
 -- ---- what each case writes
@@ -65,21 +67,21 @@ module _ (l : Line) (i : AttrIr) (u : Uncut l i) where
     one : (row : Row) (id : Bool) → WroteId before at (one_row id row) after r → Outcome (one_row id row) 1 before at r after
     one row id w = told before at (one_row id row) (one_row id row) after r refl 1 w (omega (arith, w.wrote.count))
 
-    pub put-positional : (run : Run) (cut : Bool) → i ≡ ir.Positional run cut → (row : Row) → row ≡ one_run tag.Positional run → WroteId before at (one_row has row) after r → Put l i has before at r after
+    pub put-positional : (t : Unquoted) (cut : Bool) → i ≡ ir.Positional t cut → (row : Row) → row ≡ marked_run tag.Positional t.run t.mark → WroteId before at (one_row has row) after r → Put l i has before at r after
     unfolding ir_read
-    put-positional run true e row f w = absurd (u.whole run e)
-    put-positional run false e row f w =
-        let x : ir.Positional run false ≡ ir.Positional (run_of (in_run l run)) false = runs_as (ir.Positional run false) e in
-        let same : run ≡ run_of (in_run l run) = cc in
-        put_as (ir.Positional run false) e (one_row has row) (λ again. ap (one_row has) (f ∙ ap (one_run tag.Positional) same)) (one row has w)
+    put-positional t true e row f w = absurd (u.whole t e)
+    put-positional t false e row f w =
+        let x : ir.Positional t false ≡ ir.Positional (marked (run_of (in_run l t.run)) t.mark) false = runs_as (ir.Positional t false) e in
+        let same : t ≡ marked (run_of (in_run l t.run)) t.mark = cc in
+        put_as (ir.Positional t false) e (one_row has row) (λ again. ap (one_row has) (f ∙ ap (λ (y : Unquoted). marked_run tag.Positional y.run t.mark) same)) (one row has w)
 
-    pub put-named : (n v : Run) → i ≡ ir.Named n v → WroteId before at (one_row has (named n v)) after r → Put l i has before at r after
+    pub put-named : (n : Run) (v : Unquoted) → i ≡ ir.Named n v → WroteId before at (one_row has (named n v.run v.mark)) after r → Put l i has before at r after
     unfolding ir_read
-    put-named n v e w = put_as (ir.Named n v) e (one_row has (named n v)) (λ again. refl) (one (named n v) has w)
+    put-named n v e w = put_as (ir.Named n v) e (one_row has (named n v.run v.mark)) (λ again. refl) (one (named n v.run v.mark) has w)
 
-    pub put-plain : (n v : Run) → i ≡ ir.Plain n v → WroteId before at (one_row has (plain n v)) after r → Put l i has before at r after
+    pub put-plain : (n : Run) (v : Unquoted) → i ≡ ir.Plain n v → WroteId before at (one_row has (plain n v.run v.mark)) after r → Put l i has before at r after
     unfolding ir_read
-    put-plain n v e w = put_as (ir.Plain n v) e (one_row has (plain n v)) (λ again. refl) (one (plain n v) has w)
+    put-plain n v e w = put_as (ir.Plain n v) e (one_row has (plain n v.run v.mark)) (λ again. refl) (one (plain n v.run v.mark) has w)
 
     pub put-options : (run : Run) → i ≡ ir.Options run → Outcome (group_read has option (groups is_comma (in_run l run))) run.count before at r after → Put l i has before at r after
     unfolding ir_read
@@ -89,22 +91,22 @@ module _ (l : Line) (i : AttrIr) (u : Uncut l i) where
     unfolding ir_read
     put-roles run e w = put_as (ir.Roles run) e _ (λ again. refl) w
 
-    one-id : (run : Run) → WroteId before at (id_run has run) after r → Outcome (id_run has run) 1 before at r after
+    one-id : (t : Unquoted) → WroteId before at (id_run has t.run t.mark) after r → Outcome (id_run has t.run t.mark) 1 before at r after
     unfolding id_run
-    one-id run w = go (eqb run.count 0) has w
+    one-id t w = go (eqb t.run.count 0) has w
       where
-        go : (b c : Bool) → WroteId before at (cond b (one_row c (diagnostic 0 3)) (cond c (one_row true (diagnostic run.place.0 4)) (one_row true (ident run)))) after r
-            → Outcome (cond b (one_row c (diagnostic 0 3)) (cond c (one_row true (diagnostic run.place.0 4)) (one_row true (ident run)))) 1 before at r after
+        go : (b c : Bool) → WroteId before at (cond b (one_row c (diagnostic 0 3)) (cond c (one_row true (diagnostic t.run.place.0 4)) (one_row true (ident t.run t.mark)))) after r
+            → Outcome (cond b (one_row c (diagnostic 0 3)) (cond c (one_row true (diagnostic t.run.place.0 4)) (one_row true (ident t.run t.mark)))) 1 before at r after
         go true c w = one (diagnostic 0 3) c w
-        go false true w = one (diagnostic run.place.0 4) true w
-        go false false w = one (ident run) true w
+        go false true w = one (diagnostic t.run.place.0 4) true w
+        go false false w = one (ident t.run t.mark) true w
 
-    pub put_id : (run : Run) → i ≡ ir.Id run → WroteId before at (id_run has run) after r → Put l i has before at r after
+    pub put_id : (t : Unquoted) → i ≡ ir.Id t → WroteId before at (id_run has t.run t.mark) after r → Put l i has before at r after
     unfolding ir_read
-    put_id run e w =
-        let x : ir.Id run ≡ ir.Id (run_of (in_run l run)) = runs_as (ir.Id run) e in
-        let same : run ≡ run_of (in_run l run) = cc in
-        put_as (ir.Id run) e (id_run has run) (λ again. ap (id_run has) same ∙ sym (id-by-run has (in_run l run))) (one-id run w)
+    put_id t e w =
+        let x : ir.Id t ≡ ir.Id (marked (run_of (in_run l t.run)) t.mark) = runs_as (ir.Id t) e in
+        let same : t ≡ marked (run_of (in_run l t.run)) t.mark = cc in
+        put_as (ir.Id t) e (id_run has t.run t.mark) (λ again. ap (λ (y : Unquoted). id_run has y.run t.mark) same ∙ sym (id-by-run has (in_run l t.run) t.mark)) (one-id t w)
 
     pub put-shorthand : (run : Run) → i ≡ ir.Shorthand run → Outcome (in_shorthand has (in_run l run)) run.count before at r after → Put l i has before at r after
     unfolding ir_read

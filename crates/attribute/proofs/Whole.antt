@@ -7,6 +7,9 @@ use mathlib.Core.Path.{◌≡◌, refl, sym, ap, subst, ◌∙◌}
 use mathlib.Core.List.{List, [], ◌∷◌}
 use lib.ListN.{length, get_or}
 use Rattle.token.specs.declared.Run.{Run}
+use Rattle.token.specs.declared.quotes.QuoteMark.{QuoteMark}
+use Rattle.token.specs.declared.quotes.QuoteMark.TheVariants as mark
+use Rattle.token.specs.declared.quotes.Unquoted.{Unquoted}
 use Rattle.token.specs.Kind.{attr_ref}
 use Rattle.token.specs.Line.{Line, Token, token_at}
 use Rattle.runs.specs.Run.{kept, is_dots, is_hash, is_percent, is_whitespace, is_equals, of_one, up_to, onward, trim, run_of, in_run}
@@ -22,7 +25,7 @@ use Rattle.std.specs.declared.ops.ControlFlow.TheVariants.{Break, Continue}
 use Rattle.attr_ir.specs.declared.Name.{Name}
 use Rattle.attr_ir.specs.declared.Name.TheVariants as asks
 use Rattle.attr_ir.specs.Look.{Sight, is_symbol, is_quote, next_space, next_equals, symbol_sight, sight, decided, look}
-use Rattle.attr_ir.specs.Ir.{name_tokens, value_tokens, name_of, named_ir, key_value_ir, ir_as, attr_ir, runs_of, tokens_of}
+use Rattle.attr_ir.specs.Ir.{name_tokens, value_mark, after_equals, value_tokens, name_of, named_ir, key_value_ir, ir_as, attr_ir, runs_of, tokens_of}
 use Rattle.attr_ir.specs.Ir as is
 use Rattle.attr_ir.specs.Places.{Bounded}
 use Rattle.put_rows.specs.declared.Written.{Written}
@@ -103,19 +106,19 @@ pub shorthand-first : (block : Bool) (t : Token) (ts us : List Token) → attr_i
 unfolding attr_ir ir_as key_value_ir named_ir
 shorthand-first block t ts us e = go (look block true false (t ∷ ts)) refl e
   where
-    name : (a : Name) (n v : List Token) → named_ir a n v ≡ is.shorthand us → (us ≡ t ∷ ts) × (is_stop t ≡ true)
-    name asks.Options n v e = absurd (suc-ne-zero 0 cc)
-    name asks.Role n v e = absurd (suc-ne-zero 0 cc)
-    name asks.Id n v e = absurd (suc-ne-zero 0 cc)
-    name asks.Plain n v e = absurd (suc-ne-zero 0 cc)
-    name asks.Other n v e = absurd (suc-ne-zero 0 cc)
+    name : (a : Name) (n v : List Token) (m : QuoteMark) → named_ir a n v m ≡ is.shorthand us → (us ≡ t ∷ ts) × (is_stop t ≡ true)
+    name asks.Options n v m e = absurd (suc-ne-zero 0 cc)
+    name asks.Role n v m e = absurd (suc-ne-zero 0 cc)
+    name asks.Id n v m e = absurd (suc-ne-zero 0 cc)
+    name asks.Plain n v m e = absurd (suc-ne-zero 0 cc)
+    name asks.Other n v m e = absurd (suc-ne-zero 0 cc)
 
     go : (r : Reading) → look block true false (t ∷ ts) ≡ r → ir_as block (t ∷ ts) r ≡ is.shorthand us → (us ≡ t ∷ ts) × (is_stop t ≡ true)
     go Shorthand f e =
         let same : us ≡ t ∷ ts = cc in
         (same, look-first block t ts (sym f))
     go (Positional n) f e = absurd (suc-ne-zero 0 cc)
-    go Named f e = name (name_of (Rattle.runs.specs.Names.bytes (name_tokens (t ∷ ts)))) (name_tokens (t ∷ ts)) (value_tokens (t ∷ ts)) e
+    go Named f e = name (name_of (Rattle.runs.specs.Names.bytes (name_tokens (t ∷ ts)))) (name_tokens (t ∷ ts)) (value_tokens (t ∷ ts)) (value_mark (after_equals (t ∷ ts))) e
 
 -- ---- an attribute trimmed to the run s
 
@@ -146,21 +149,21 @@ module _ (l : Line) (from to : ℕ) (block has : Bool) (s : Run) (w : Part trim 
       pub whole-ir : ir_read (attribute block has) has (tokens_of l i) ≡ attribute block has (kept l from to)
       whole-ir = sym (whole ∙ by-ir _ _ _ first-token ∙ ap (ir_read (attribute block has) has) (sym held))
 
-      module _ (r : Run) (e : i ≡ ir.Positional r true) where
-        pub whole-cut : cut_read (attribute block has) has (up_to is_symbol (in_run l r)) (onward is_symbol (in_run l r)) ≡ attribute block has (kept l from to)
+      module _ (t : Unquoted) (e : i ≡ ir.Positional t true) where
+        pub whole-cut : cut_read (attribute block has) has (up_to is_symbol (in_run l t.run)) (onward is_symbol (in_run l t.run)) ≡ attribute block has (kept l from to)
         unfolding ir_read
         whole-cut = sym (ap (λ (j : AttrIr). ir_read (attribute block has) has (tokens_of l j)) e) ∙ whole-ir
 
         -- a positional that is cut has a token
-        pub cut-some : 0 < r.count
+        pub cut-some : 0 < t.run.count
         unfolding onward
-        cut-some = go r.count refl
+        cut-some = go t.run.count refl
           where
-            none : in_run l r ≡ [] → ⊥
-            none z = cut-has-symbol block (in_run l s) (in_run l r) (sym held ∙ ap (tokens_of l) e) (ap (onward is_symbol) z)
+            none : in_run l t.run ≡ [] → ⊥
+            none z = cut-has-symbol block (in_run l s) (in_run l t.run) t.mark (sym held ∙ ap (tokens_of l) e) (ap (onward is_symbol) z)
 
-            go : (n : ℕ) → r.count ≡ n → 0 < r.count
-            go zero z = absurd (none (kept-none l r.place.0 (r.place.0 + r.count) (omega arith)))
+            go : (n : ℕ) → t.run.count ≡ n → 0 < t.run.count
+            go zero z = absurd (none (kept-none l t.run.place.0 (t.run.place.0 + t.run.count) (omega arith)))
             go (suc n) z = omega arith
 
       -- a shorthand begins with its symbol
@@ -177,7 +180,7 @@ module _ (l : Line) (from to : ℕ) (block has : Bool) (s : Run) (w : Part trim 
               cc
 
       -- what is not to be cut
-      pub whole-uncut : i ≡ runs_of (attr_ir block (in_run l s)) → Bounded l.kinds s.place.0 (s.place.0 + s.count) i → s.place.0 + s.count ≤ length l.kinds → ((r : Run) → i ≡ ir.Positional r true → ⊥) → Uncut l i
+      pub whole-uncut : i ≡ runs_of (attr_ir block (in_run l s)) → Bounded l.kinds s.place.0 (s.place.0 + s.count) i → s.place.0 + s.count ≤ length l.kinds → ((t : Unquoted) → i ≡ ir.Positional t true → ⊥) → Uncut l i
       whole-uncut answer within room not =
           record {
             whole = not;
@@ -192,7 +195,7 @@ at_once : (again : List Token → Read) (has : Bool) (before tail : List Token) 
 unfolding cut_read
 at_once again has before tail t us e f = rw (e, f)
 
-later-on : (again : List Token → Read) (has : Bool) (before tail : List Token) (t : Token) (us : List Token) → before ≡ t ∷ us → cut_read again has before tail ≡ row_first (positional (run_of before)) (again tail)
+later-on : (again : List Token → Read) (has : Bool) (before tail : List Token) (t : Token) (us : List Token) → before ≡ t ∷ us → cut_read again has before tail ≡ row_first (positional (run_of before) mark.None) (again tail)
 unfolding cut_read
 later-on again has before tail t us e = rw e
 
@@ -217,7 +220,7 @@ module _ (l : Line) (from to : ℕ) (block has : Bool) (m : ℕ) (w : FoundAt is
   cut_later k e before at now p g after r n most u few =
       let v = subst (λ (x : Bool). Outcome (attribute block x (kept l m to)) n now p.rows r after) g.id u in
       let D = attribute block has (kept l m to) in
-      let row = positional (run_of (kept l from m)) in
+      let row = positional (run_of (kept l from m)) mark.None in
       let eq : given ≡ row_first row D = in_parts ∙ later-on (attribute block has) has (kept l from m) (kept l m to) (token_at l from) (kept l (from + 1) m) (kept-first l from m k e) in
       let put : Writes before at (row ∷ D.rows) now p.rows D.rows = writes-part before at (row ∷ D.rows) before at (row ∷ []) D.rows now p.rows (writes_start before at (row ∷ D.rows)) g.wrote in
       rw eq

@@ -1,6 +1,7 @@
 -- The rows of one attribute (document 01, "One attribute").
 use Rattle.std.specs.Prelude.{ℕ, zero, suc, Bool, cond, List, [], ◌∷◌, length}
 use Rattle.token.specs.Line.{Token}
+use Rattle.token.specs.declared.quotes.QuoteMark.TheVariants as mark
 use Rattle.runs.specs.Run.{is_comma, is_whitespace, up_to, onward, trim, run_of}
 use Rattle.row.specs.Row.{empty_positional, positional, named, role, option, diagnostic, plain}
 use Rattle.put_rows.specs.Rows.{Read, one_row, row_first, in_shorthand, groups, group_read, id_read}
@@ -15,17 +16,17 @@ use Rattle.attr_ir.specs.Ir as is
 unfoldable pub cut_read : (again : List Token → Read) → (has : Bool) → (before tail : List Token) → Read
 cut_read again has [] [] = one_row has (diagnostic 0 2)
 cut_read again has [] (t ∷ ts) = one_row has (diagnostic t.place 2)
-cut_read again has (t ∷ ts) tail = row_first (positional (run_of (t ∷ ts))) (again tail)
+cut_read again has (t ∷ ts) tail = row_first (positional (run_of (t ∷ ts)) mark.None) (again tail)
 
 -- "`options`, `opts` split at Comma, `role` at Whitespace"
 unfoldable pub ir_read : (again : List Token → Read) → (has : Bool) → Ir → Read
-ir_read again has (is.positional ts cut) =
-    cond cut (cut_read again has (up_to is_symbol ts) (onward is_symbol ts)) (one_row has (positional (run_of ts)))
-ir_read again has (is.named name value) = one_row has (named name value)
-ir_read again has (is.plain name value) = one_row has (plain name value)
+ir_read again has (is.positional ts m cut) =
+    cond cut (cut_read again has (up_to is_symbol ts) (onward is_symbol ts)) (one_row has (positional (run_of ts) m))
+ir_read again has (is.named name value m) = one_row has (named name value m)
+ir_read again has (is.plain name value m) = one_row has (plain name value m)
 ir_read again has (is.options ts) = group_read has option (groups is_comma ts)
 ir_read again has (is.roles ts) = group_read has role (groups is_whitespace ts)
-ir_read again has (is.ident ts) = id_read has ts
+ir_read again has (is.ident ts m) = id_read has ts m
 ir_read again has (is.shorthand ts) = in_shorthand has ts
 
 -- "AttrRef is dropped, then `trim`; nothing left is tag 1": of trimmed tokens

@@ -13,6 +13,7 @@ use row::diagnostic::Diagnostic;
 use runs::places::{Places, Tokens};
 use symbols::find_symbol;
 use token::lent::Line;
+use token::quotes::Unquoted;
 use token::{Run, TokenPlace};
 use uncut::put_ir;
 
@@ -33,12 +34,12 @@ pub(crate) fn in_run<'a>(line: Line<'a>, run: Run) -> Tokens<'a>
     }
 }
 
-// The run of a positional that is to be cut.
-fn run_to_cut(ir: AttrIr) -> Option<Run>
+// The text of a positional that is to be cut; its mark is none.
+fn text_to_cut(ir: AttrIr) -> Option<Unquoted>
     ensures { ToCut ir result }
 {
     match ir {
-        AttrIr::Positional { run, cut } => cut.then_some(run),
+        AttrIr::Positional { text, cut } => cut.then_some(text),
         _ => None,
     }
 }
@@ -54,8 +55,8 @@ pub fn parse_attr(tokens: Tokens<'_>, block: bool, rows: &mut [u32], written: Wr
         return written.put_empty(rows);
     }
     let ir = attr_ir(in_run(tokens.line, trimmed), block);
-    match run_to_cut(ir) {
-        Some(run) => cut_positional(in_run(tokens.line, run), block, rows, written),
+    match text_to_cut(ir) {
+        Some(text) => cut_positional(in_run(tokens.line, text.run), block, rows, written),
         None => put_ir(tokens.line, ir, rows, written),
     }
 }

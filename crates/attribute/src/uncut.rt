@@ -19,8 +19,8 @@ pub(crate) fn put_ir(line: Line<'_>, ir: AttrIr, rows: &mut [u32], written: Writ
     ensures { Put (line_in line.entry) ir written.id rows.old written.rows result rows.new }
 {
     match ir {
-        AttrIr::Positional { run, cut: _ } => {
-            written.put_one(rows, Row::one_run(Tag::Positional, run))
+        AttrIr::Positional { text, cut: _ } => {
+            written.put_one(rows, Row::unquoted(Tag::Positional, text))
         }
         AttrIr::Named { name, value } => written.put_named(rows, Tag::Named, name, value),
         AttrIr::Plain { name, value } => written.put_named(rows, Tag::Plain, name, value),
@@ -32,7 +32,7 @@ pub(crate) fn put_ir(line: Line<'_>, ir: AttrIr, rows: &mut [u32], written: Writ
             let places = in_run(line, run).places();
             written.put_groups(rows, places, TokenKind::Whitespace, Tag::Role)
         }
-        AttrIr::Id(run) => written.put_id(rows, run),
+        AttrIr::Id(text) => written.put_id(rows, text),
         AttrIr::Shorthand(run) => written.push_shorthand(rows, in_run(line, run)),
     }
 }

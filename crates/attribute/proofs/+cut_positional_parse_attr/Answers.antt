@@ -51,11 +51,11 @@ pub parse_attr-cut_positional-requires : goal.parse_attr-cut_positional-requires
 parse_attr-cut_positional-requires t c =
     let a = c.args in
     let s = c.trim-trimmed.result in
-    let r = c.in-Some.run' in
+    let r = c.in-Some.text.run in
     let part = part-of c.places.ensures c.trim-trimmed.ensures.part in
     let i = run-ir c.in_run.result _ _ _ c.in_run.ensures c.attr_ir-ir.ensures in
     let in-run = subst (λ (x : AttrIr). Bounded a.tokens.line.kinds.now s.place.0 (s.place.0 + s.count) x) c.in-Some.ensures i.within in
-    let some = cut-some (line_in a.tokens.line) _ _ a.block a.written.id _ part c.if-trimmed-eq0.false _ i.held r c.in-Some.ensures in
+    let some = cut-some (line_in a.tokens.line) _ _ a.block a.written.id _ part c.if-trimmed-eq0.false _ i.held c.in-Some.text c.in-Some.ensures in
     let e = c.in_run-in-Some.ensures in (
       omega (arith, c.decreases, part.few, in-run.few, ap (λ n. n.0) e.from, e.to),
       to-run (λ l from to. (from < to) × ((get_or l.kinds from 0 ≡ attr_ref → ⊥) × (width * (a.written.rows + (to - from) + 1) ≤ length a.rows.now))) c.in_run-in-Some.result _ e
@@ -76,7 +76,7 @@ parse_attr-returns-in-Some t c =
     let part = part-of c.places.ensures c.trim-trimmed.ensures.part in
     let i = run-ir c.in_run.result _ _ _ c.in_run.ensures c.attr_ir-ir.ensures in
     let in-run = subst (λ (x : AttrIr). Bounded a.tokens.line.kinds.now s.place.0 (s.place.0 + s.count) x) c.in-Some.ensures i.within in
-    let cut = whole-cut (line_in a.tokens.line) _ _ a.block a.written.id _ part c.if-trimmed-eq0.false _ i.held c.in-Some.run' c.in-Some.ensures in
+    let cut = whole-cut (line_in a.tokens.line) _ _ a.block a.written.id _ part c.if-trimmed-eq0.false _ i.held c.in-Some.text c.in-Some.ensures in
     let w = of-run (λ l from to. Cut l from to a.block a.written.id a.rows.now a.written.rows c.cut_positional.result c.cut_positional.new.rows) c.in_run-in-Some.result _ c.in_run-in-Some.ensures c.cut_positional.ensures in
     told-as _ _ _ _ _ _ cut _ _ w (omega (arith, in-run.few, part.few))
 

@@ -13,7 +13,7 @@ use Rattle.attribute.proofs.Outcomes.{put-positional, put-named, put-plain, put-
 use Rattle.attribute.proofs.uncut.put_ir.Goals as goal
 
 pub returns-in-Positional : goal.returns-in-Positional
-returns-in-Positional c = put-positional (line_in c.args.line) _ c.requires.uncut _ _ _ _ _ _ _ c.in-Positional.is _ c.one_run.ensures c.put_one.ensures
+returns-in-Positional c = put-positional (line_in c.args.line) _ c.requires.uncut _ _ _ _ _ _ _ c.in-Positional.is _ c.unquoted.ensures c.put_one.ensures
 
 pub returns-in-Named : goal.returns-in-Named
 returns-in-Named c = put-named (line_in c.args.line) _ c.requires.uncut _ _ _ _ _ _ _ c.in-Named.is c.put_named.ensures

@@ -9,17 +9,16 @@ use Rattle.std.specs.Prelude.{Option, Some, None}
 use lib.Seq.{sets}
 use borrow.Author.Tests.{eq-eqb, ne_eqb}
 use Rattle.token.specs.declared.TokenPlace.{TokenPlace}
-use Rattle.token.specs.declared.Run.{Run}
+use Rattle.token.specs.declared.quotes.Unquoted.{Unquoted}
 use Rattle.refusals.specs.declared.Refusal.{Refusal}
 use Rattle.refusals.specs.Numbered.{number_of}
 use Rattle.refusals.specs.Refusals.{rows_too_short, no_closing_bracket}
 use Rattle.refusals.proofs.Laws.{number-some}
 use Rattle.token.specs.Kind.{close_bracket, kind_at}
 use Rattle.token.specs.Line.{Line, line_of, refusal}
-use Rattle.runs.specs.Run.{kept, unquote, run_of}
+use Rattle.runs.specs.Run.{kept, quote_mark, unquote, unquoted, run_of}
 use Rattle.row.specs.declared.Row.{Row}
-use Rattle.row.specs.declared.tag.Tag.TheVariants.{Positional}
-use Rattle.row.specs.Row.{width, numbers, all_numbers, one_run, positional, room_for, with_rows, Wrote}
+use Rattle.row.specs.Row.{width, numbers, all_numbers, positional, room_for, with_rows, Wrote}
 use Rattle.row.proofs.Laws.{wrote_one}
 use Rattle.delimiters.specs.Delimit.{dividing, parted}
 use Rattle.delimiters.specs.Divide.{Ascending}
@@ -169,9 +168,11 @@ text-among kinds pairs m is some end e =
     omega arith
 
 module _ (kinds text pairs : List ℕ) (end : ℕ) (given : List ℕ) where
-  pub text-gives : kind_at kinds end ≡ close_bracket → (r : Run) (row : Row) (left : List ℕ) → row ≡ one_run Positional r → r ≡ run_of (unquote (kept (line_of kinds text pairs) 0 end)) → left ≡ sets given (width * 0) (numbers row) → Gives given (text_to (line_of kinds text pairs) end) (Read 1 (end + 1)) left
-  text-gives h r row left e f fills =
-      let same : row ≡ positional (run_of (unquote (kept (line_of kinds text pairs) 0 end))) = e ∙ ap (one_run Positional) f in
-      gives_as given (gives (positional (run_of (unquote (kept (line_of kinds text pairs) 0 end))) ∷ []) (end + 1)) _ (Read 1 (end + 1)) left
-      (record { answer = refl; buffer = fills ∙ ap (λ (x : Row). sets given (width * 0) (numbers x)) same ∙ (wrote_one given 0 (positional (run_of (unquote (kept (line_of kinds text pairs) 0 end))))).buffer })
-      (sym (ap (λ (b : Bool). cond b (gives (positional (run_of (unquote (kept (line_of kinds text pairs) 0 end))) ∷ []) (end + 1)) (refused no_closing_bracket)) (eq-eqb (kind_at kinds end) close_bracket h)))
+  pub text-gives : kind_at kinds end ≡ close_bracket → (t : Unquoted) (row : Row) (left : List ℕ) → row ≡ positional t.run t.mark → t ≡ unquoted (kept (line_of kinds text pairs) 0 end) → left ≡ sets given (width * 0) (numbers row) → Gives given (text_to (line_of kinds text pairs) end) (Read 1 (end + 1)) left
+  text-gives h t row left e f fills =
+      let ts = kept (line_of kinds text pairs) 0 end in
+      let only = positional (run_of (unquote ts)) (quote_mark ts) in
+      let same : row ≡ only = e ∙ ap (λ (u : Unquoted). positional u.run u.mark) f in
+      gives_as given (gives (only ∷ []) (end + 1)) _ (Read 1 (end + 1)) left
+      (record { answer = refl; buffer = fills ∙ ap (λ (x : Row). sets given (width * 0) (numbers x)) same ∙ (wrote_one given 0 only).buffer })
+      (sym (ap (λ (b : Bool). cond b (gives (only ∷ []) (end + 1)) (refused no_closing_bracket)) (eq-eqb (kind_at kinds end) close_bracket h)))

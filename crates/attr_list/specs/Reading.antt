@@ -2,8 +2,8 @@
 use Rattle.std.specs.Prelude.{ℕ, zero, suc, ◌+◌, Bool, true, false, cond, not, List, [], ◌∷◌, ◌≡◌, eqb, length, Option, Some, None}
 use Rattle.refusals.specs.Refusals.{rows_too_short, no_closing_bracket}
 use Rattle.token.specs.Kind.{close_bracket, kind_at}
-use Rattle.token.specs.Line.{Line, check, refusal}
-use Rattle.runs.specs.Run.{kept, unquote, run_of}
+use Rattle.token.specs.Line.{Line, Token, check, refusal}
+use Rattle.runs.specs.Run.{kept, quote_mark, unquote, run_of}
 use Rattle.row.specs.declared.Row.{Row}
 use Rattle.row.specs.Row.{positional, with_rows, room_for}
 use Rattle.token.specs.declared.TokenPlace.{TokenPlace}
@@ -62,11 +62,14 @@ list_to l block (Some end) = gives (list_rows l block end.0) (end.0 + 1)
 abbrev pub list_of : Line → (full block : Bool) → Reading
 list_of l full block = list_to l block (closing full l.kinds)
 
+-- the one row of a link's text, of the tokens kept
+abbrev pub text_row : List Token → Row
+text_row ts = positional (run_of (unquote ts)) (quote_mark ts)
+
 -- "text, one tag 2 row, AttrRef dropped, unquoted, untrimmed, consumed through the bracket"; "Text whose closing token is not CloseBracket is 8": that
 -- token stands at `end`
 abbrev pub text_to : Line → (end : ℕ) → Reading
-text_to l end =
-    cond (eqb (kind_at l.kinds end) close_bracket) (gives (positional (run_of (unquote (kept l 0 end))) ∷ []) (end + 1)) (refused no_closing_bracket)
+text_to l end = cond (eqb (kind_at l.kinds end) close_bracket) (gives (text_row (kept l 0 end) ∷ []) (end + 1)) (refused no_closing_bracket)
 
 -- "list (read as inline) or text"
 abbrev pub link_to : Line → LinkMacro → Reading

@@ -85,7 +85,7 @@ fn read_text(line: Line<'_>, end: TokenPlace, rows: &mut [u32]) -> Result<Read, 
         from: TokenPlace(0),
         to: end,
     };
-    Row::one_run(Tag::Positional, text.unquote()).put(rows, 0);
+    Row::unquoted(Tag::Positional, text.unquote()).put(rows, 0);
     let consumed = end.0 + 1;
     Ok(Read { rows: 1, consumed })
 }

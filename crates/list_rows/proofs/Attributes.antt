@@ -9,8 +9,9 @@ use lib.Dec.{eqb}
 use lib.ListN.{length, get_or}
 use Rattle.std.proofs.lemmas.Bool.{and_parts}
 use Rattle.token.specs.Kind.{word}
+use Rattle.token.specs.declared.quotes.QuoteMark.TheVariants as mark
 use Rattle.token.specs.Line.{Line, token_at, lexeme_at, run, empty_run}
-use Rattle.runs.specs.Run.{kept, run_of, last_of, trim, trim_start, trim_end, leave, quoted, unquote}
+use Rattle.runs.specs.Run.{kept, run_of, last_of, trim, trim_start, trim_end, leave, quote_mark, quoted, unquote}
 use Rattle.runs.proofs.KeptLaws.{kept-none, kept-one}
 use Rattle.row.specs.declared.Row.{Row}
 use Rattle.row.specs.declared.tag.Tag.TheVariants as tag
@@ -43,8 +44,8 @@ none_read block has = again block has []
 pub none_row : (block has : Bool) (l : Line) (from to : ℕ) → from ≡ to → (row : Row) → row ≡ one_run tag.EmptyPositional empty_run → one_row has row ≡ attribute block has (kept l from to)
 none_row block has l from to e row is = ap (one_row has) is ∙ sym (ap (attribute block has) (kept-none l from to (omega (arith, e))) ∙ none_read block has)
 
-word_read : (block has : Bool) (p : ℕ) (bs : List ℕ) → attribute block has (record { place = p; kind = word; lexeme = bs } ∷ []) ≡ one_row has (positional (run p (suc (p - p))))
-unfolding reading trim trim_start trim_end leave attr_ir look sight ir_as quoted unquote ir_read run_of last_of
+word_read : (block has : Bool) (p : ℕ) (bs : List ℕ) → attribute block has (record { place = p; kind = word; lexeme = bs } ∷ []) ≡ one_row has (positional (run p (suc (p - p))) mark.None)
+unfolding reading trim trim_start trim_end leave attr_ir look sight ir_as quote_mark quoted unquote ir_read run_of last_of
 word_read block has p bs = again block has (record { place = p; kind = word; lexeme = bs } ∷ [])
 
 word_kept : (l : Line) (p : ℕ) → get_or l.kinds p 0 ≡ word → kept l p (p + 1) ≡ record { place = p; kind = word; lexeme = lexeme_at l p } ∷ []
@@ -60,7 +61,7 @@ word_row block has l from to t row is =
     ap (λ (x : ℕ). attribute block has (kept l from x)) (eqb-true to (from + 1) w.0)
     ∙ ap (attribute block has) (word_kept l from (eqb-true (get_or l.kinds from 0) word w.1))
     ∙ word_read block has from (lexeme_at l from)
-    ∙ ap (λ (n : ℕ). one_row has (positional (run from n))) one
+    ∙ ap (λ (n : ℕ). one_row has (positional (run from n) mark.None)) one
     )
 
 -- ---- the loop

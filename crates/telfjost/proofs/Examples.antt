@@ -1,4 +1,4 @@
--- Document 01's cases that it marks P, lines and subs texts, in one list, proved by one fact about the definitions.
+-- Document 01's cases that it marks P, lines and subs texts, in one list, proved by one fact about the definitions; and lines of document 02's quote marks.
 use Rattle.std.specs.Prelude.{ℕ, ◌+◌, true, ◌≡◌, refl, List, [], ◌∷◌, ◌++◌, map, length}
 use Rattle.substitutions.specs.declared.Mode.{Mode}
 use Rattle.substitutions.specs.declared.Mode.TheVariants.{Port, Sheet}
@@ -6,11 +6,12 @@ use Rattle.substitutions.specs.declared.Substitutions.{Substitutions}
 use Rattle.substitutions.specs.declared.SetAnswer.{SetAnswer}
 use Rattle.substitutions.specs.Moves.{set}
 use Rattle.subs_names.specs.Names.{callouts, verbatim, quotes, macros}
-use Rattle.token.specs.Kind.{close_bracket, comma, double_quote, dots, equal_signs, hash, percent, single_quote, word}
+use Rattle.token.specs.Kind.{attr_ref, close_bracket, comma, double_quote, dots, equal_signs, hash, percent, single_quote, word}
 use Rattle.token.specs.Line.{run}
-use Rattle.row.specs.Row.{empty_positional, positional, named, ident, role, option, diagnostic}
+use Rattle.token.specs.declared.quotes.QuoteMark.TheVariants as mark
+use Rattle.row.specs.Row.{empty_positional, positional, named, ident, role, option, diagnostic, plain}
 use Rattle.attr_list.specs.declared.entries.Entry.{Entry}
-use Rattle.attr_list.specs.declared.entries.Entry.TheVariants.{Block}
+use Rattle.attr_list.specs.declared.entries.Entry.TheVariants.{Block, Link}
 use Rattle.attr_ir.specs.Ir as attr-ir-ir
 use Rattle.attr_ir.specs.Look as attr-ir-look
 use Rattle.attr_list.specs.Reading as attr-list-reading
@@ -58,7 +59,7 @@ lines =
       entry = Block;
       kinds = close_bracket ∷ [];
       lexemes = (93 ∷ []) ∷ [];
-      room = 5;
+      room = 6;
       gives = attr-list-reading.gives [] 1;
     }
     -- `a,b]`
@@ -66,64 +67,64 @@ lines =
       entry = Block;
       kinds = word ∷ comma ∷ word ∷ close_bracket ∷ [];
       lexemes = (97 ∷ []) ∷ (44 ∷ []) ∷ (98 ∷ []) ∷ (93 ∷ []) ∷ [];
-      room = 20;
-      gives = attr-list-reading.gives (positional (run 0 1) ∷ positional (run 2 1) ∷ []) 4;
+      room = 24;
+      gives = attr-list-reading.gives (positional (run 0 1) mark.None ∷ positional (run 2 1) mark.None ∷ []) 4;
     }
     -- `a,]`
     ∷ record {
       entry = Block;
       kinds = word ∷ comma ∷ close_bracket ∷ [];
       lexemes = (97 ∷ []) ∷ (44 ∷ []) ∷ (93 ∷ []) ∷ [];
-      room = 15;
-      gives = attr-list-reading.gives (positional (run 0 1) ∷ empty_positional ∷ []) 3;
+      room = 18;
+      gives = attr-list-reading.gives (positional (run 0 1) mark.None ∷ empty_positional ∷ []) 3;
     }
     -- `k="a,b",c]`
     ∷ record {
       entry = Block;
       kinds = word ∷ equal_signs ∷ double_quote ∷ word ∷ comma ∷ word ∷ double_quote ∷ comma ∷ word ∷ close_bracket ∷ [];
       lexemes = (107 ∷ []) ∷ (61 ∷ []) ∷ (34 ∷ []) ∷ (97 ∷ []) ∷ (44 ∷ []) ∷ (98 ∷ []) ∷ (34 ∷ []) ∷ (44 ∷ []) ∷ (99 ∷ []) ∷ (93 ∷ []) ∷ [];
-      room = 50;
-      gives = attr-list-reading.gives (named (run 0 1) (run 3 3) ∷ positional (run 8 1) ∷ []) 10;
+      room = 60;
+      gives = attr-list-reading.gives (named (run 0 1) (run 3 3) mark.Double ∷ positional (run 8 1) mark.None ∷ []) 10;
     }
     -- `",'",']`: the pairs cross, and the comma at 4 divides
     ∷ record {
       entry = Block;
       kinds = double_quote ∷ comma ∷ single_quote ∷ double_quote ∷ comma ∷ single_quote ∷ close_bracket ∷ [];
       lexemes = (34 ∷ []) ∷ (44 ∷ []) ∷ (39 ∷ []) ∷ (34 ∷ []) ∷ (44 ∷ []) ∷ (39 ∷ []) ∷ (93 ∷ []) ∷ [];
-      room = 35;
-      gives = attr-list-reading.gives (positional (run 1 2) ∷ positional (run 5 1) ∷ []) 7;
+      room = 42;
+      gives = attr-list-reading.gives (positional (run 1 2) mark.Double ∷ positional (run 5 1) mark.None ∷ []) 7;
     }
     -- `a==b=c]`
     ∷ record {
       entry = Block;
       kinds = word ∷ equal_signs ∷ word ∷ equal_signs ∷ word ∷ close_bracket ∷ [];
       lexemes = (97 ∷ []) ∷ (61 ∷ 61 ∷ []) ∷ (98 ∷ []) ∷ (61 ∷ []) ∷ (99 ∷ []) ∷ (93 ∷ []) ∷ [];
-      room = 30;
-      gives = attr-list-reading.gives (named (run 0 1) (run 2 3) ∷ []) 6;
+      room = 36;
+      gives = attr-list-reading.gives (named (run 0 1) (run 2 3) mark.None ∷ []) 6;
     }
     -- `.x#y%]`
     ∷ record {
       entry = Block;
       kinds = dots ∷ word ∷ hash ∷ word ∷ percent ∷ close_bracket ∷ [];
       lexemes = (46 ∷ []) ∷ (120 ∷ []) ∷ (35 ∷ []) ∷ (121 ∷ []) ∷ (37 ∷ []) ∷ (93 ∷ []) ∷ [];
-      room = 30;
-      gives = attr-list-reading.gives (role (run 1 1) ∷ ident (run 3 1) ∷ diagnostic 4 1 ∷ []) 6;
+      room = 36;
+      gives = attr-list-reading.gives (role (run 1 1) ∷ ident (run 3 1) mark.None ∷ diagnostic 4 1 ∷ []) 6;
     }
     -- `#%o]`
     ∷ record {
       entry = Block;
       kinds = hash ∷ percent ∷ word ∷ close_bracket ∷ [];
       lexemes = (35 ∷ []) ∷ (37 ∷ []) ∷ (111 ∷ []) ∷ (93 ∷ []) ∷ [];
-      room = 20;
-      gives = attr-list-reading.gives (ident (run 0 0) ∷ option (run 2 1) ∷ []) 4;
+      room = 24;
+      gives = attr-list-reading.gives (ident (run 0 0) mark.None ∷ option (run 2 1) ∷ []) 4;
     }
     -- `a...b.c]`
     ∷ record {
       entry = Block;
       kinds = word ∷ dots ∷ word ∷ dots ∷ word ∷ close_bracket ∷ [];
       lexemes = (97 ∷ []) ∷ (46 ∷ 46 ∷ 46 ∷ []) ∷ (98 ∷ []) ∷ (46 ∷ []) ∷ (99 ∷ []) ∷ (93 ∷ []) ∷ [];
-      room = 30;
-      gives = attr-list-reading.gives (positional (run 0 1) ∷ diagnostic 1 2 ∷ []) 6;
+      room = 36;
+      gives = attr-list-reading.gives (positional (run 0 1) mark.None ∷ diagnostic 1 2 ∷ []) 6;
     }
     ∷ []
 
@@ -191,5 +192,144 @@ abbrev pub computed : Marked → Marked
 computed m = record { put = m.put; gives = gives m.put }
 
 pub marked-hold : map computed marked ≡ marked
-unfolding text_of pairs_from token-line.token_at token-line.tokens token-line.some_over token-line.misplaced token-line.refusal runs-run.without runs-run.up_to runs-run.onward runs-run.last_of runs-run.front runs-run.kept runs-run.trim_start runs-run.leave runs-run.trim_end runs-run.trim runs-run.quoted runs-run.inside runs-run.unquote runs-run.run_of runs-names.bytes runs-names.same_bytes delimiters-count.counted delimiters-delimit.start delimiters-delimit.at_comma delimiters-delimit.rejoin delimiters-delimit.rejoin_times delimiters-delimit.rejoin_to delimiters-delimit.note delimiters-delimit.at_quote delimiters-delimit.step delimiters-delimit.after delimiters-delimit.dividing delimiters-delimit.parted delimiters-delimit.attributes closing-closing.last_bracket closing-closing.unescaped closing-closing.next_bracket closing-link.turn closing-link.look_from closing-link.link_macro attr-ir-look.symbol_sight attr-ir-look.sight attr-ir-look.look attr-ir-ir.name_tokens attr-ir-ir.value attr-ir-ir.value_tokens attr-ir-ir.name_of attr-ir-ir.named_ir attr-ir-ir.key_value_ir attr-ir-ir.ir_as attr-ir-ir.attr_ir put-rows-rows.pieces put-rows-rows.shorthand_read put-rows-rows.later_groups put-rows-rows.groups put-rows-rows.group_rows put-rows-rows.id_read attribute-attribute.cut_read attribute-attribute.ir_read attribute-attribute.reading attribute-attribute.attribute_in attribute-attribute.attribute list-rows-list-rows.rows_from closing-closing.last_begins attr-list-reading.lent_refusal attr-list-reading.reading customize-subs-customizing.meta_answer customize-subs-customizing.meta_refusal customize-subs-customizing.meta_of customize-subs-customizing.start_of customize-subs-customizing.through customize-subs-customizing.stepped customize-subs-customizing.name_of customize-subs-customizing.strategy_of customize-subs-customizing.entered customize-subs-text.modified customize-subs-text.spaced customize-subs-text.back customize-subs-text.blank customize-subs-text.front customize-subs-text.split customize-subs-text.on_first subs-names-names.lookup_of subs-names-names.same substitutions-moves.answer substitutions-moves.refusal_of substitutions-moves.prepend_of substitutions-moves.remove_of substitutions-moves.insert_of substitutions-moves.led substitutions-moves.without substitutions-moves.filled substitutions-held.sound substitutions-held.held substitutions-held.spares substitutions-held.spare substitutions-held.covered substitutions-held.once substitutions-held.packed substitutions-held.empty substitutions-held.small substitutions-held.times substitutions-kinds.sum substitutions-kinds.each substitutions-kinds.flagged
+unfolding text_of pairs_from token-line.token_at token-line.tokens token-line.some_over token-line.misplaced token-line.refusal runs-run.without runs-run.up_to runs-run.onward runs-run.last_of runs-run.front runs-run.kept runs-run.trim_start runs-run.leave runs-run.trim_end runs-run.trim runs-run.quote_mark runs-run.quoted runs-run.inside runs-run.unquote runs-run.run_of runs-names.bytes runs-names.same_bytes delimiters-count.counted delimiters-delimit.start delimiters-delimit.at_comma delimiters-delimit.rejoin delimiters-delimit.rejoin_times delimiters-delimit.rejoin_to delimiters-delimit.note delimiters-delimit.at_quote delimiters-delimit.step delimiters-delimit.after delimiters-delimit.dividing delimiters-delimit.parted delimiters-delimit.attributes closing-closing.last_bracket closing-closing.unescaped closing-closing.next_bracket closing-link.turn closing-link.look_from closing-link.link_macro attr-ir-look.symbol_sight attr-ir-look.sight attr-ir-look.look attr-ir-ir.name_tokens attr-ir-ir.value attr-ir-ir.value_mark attr-ir-ir.value_tokens attr-ir-ir.name_of attr-ir-ir.named_ir attr-ir-ir.key_value_ir attr-ir-ir.ir_as attr-ir-ir.attr_ir put-rows-rows.pieces put-rows-rows.shorthand_read put-rows-rows.later_groups put-rows-rows.groups put-rows-rows.group_rows put-rows-rows.id_read attribute-attribute.cut_read attribute-attribute.ir_read attribute-attribute.reading attribute-attribute.attribute_in attribute-attribute.attribute list-rows-list-rows.rows_from closing-closing.last_begins attr-list-reading.lent_refusal attr-list-reading.reading customize-subs-customizing.meta_answer customize-subs-customizing.meta_refusal customize-subs-customizing.meta_of customize-subs-customizing.start_of customize-subs-customizing.through customize-subs-customizing.stepped customize-subs-customizing.name_of customize-subs-customizing.strategy_of customize-subs-customizing.entered customize-subs-text.modified customize-subs-text.spaced customize-subs-text.back customize-subs-text.blank customize-subs-text.front customize-subs-text.split customize-subs-text.on_first subs-names-names.lookup_of subs-names-names.same substitutions-moves.answer substitutions-moves.refusal_of substitutions-moves.prepend_of substitutions-moves.remove_of substitutions-moves.insert_of substitutions-moves.led substitutions-moves.without substitutions-moves.filled substitutions-held.sound substitutions-held.held substitutions-held.spares substitutions-held.spare substitutions-held.covered substitutions-held.once substitutions-held.packed substitutions-held.empty substitutions-held.small substitutions-held.times substitutions-kinds.sum substitutions-kinds.each substitutions-kinds.flagged
 marked-hold = refl
+
+-- ---- which quotes were taken off
+
+-- lines of document 02's quote marks, slip 2, with room for a row for each token
+abbrev quoted_lines : List LineCase
+quoted_lines =
+    -- `id="x"]`
+    record {
+      entry = Block;
+      kinds = word ∷ equal_signs ∷ double_quote ∷ word ∷ double_quote ∷ close_bracket ∷ [];
+      lexemes = (105 ∷ 100 ∷ []) ∷ (61 ∷ []) ∷ (34 ∷ []) ∷ (120 ∷ []) ∷ (34 ∷ []) ∷ (93 ∷ []) ∷ [];
+      room = 36;
+      gives = attr-list-reading.gives (ident (run 3 1) mark.Double ∷ []) 6;
+    }
+    -- `id='x']`
+    ∷ record {
+      entry = Block;
+      kinds = word ∷ equal_signs ∷ single_quote ∷ word ∷ single_quote ∷ close_bracket ∷ [];
+      lexemes = (105 ∷ 100 ∷ []) ∷ (61 ∷ []) ∷ (39 ∷ []) ∷ (120 ∷ []) ∷ (39 ∷ []) ∷ (93 ∷ []) ∷ [];
+      room = 36;
+      gives = attr-list-reading.gives (ident (run 3 1) mark.Single ∷ []) 6;
+    }
+    -- `#x]`: an id of shorthand did not go through unquoting
+    ∷ record {
+      entry = Block;
+      kinds = hash ∷ word ∷ close_bracket ∷ [];
+      lexemes = (35 ∷ []) ∷ (120 ∷ []) ∷ (93 ∷ []) ∷ [];
+      room = 18;
+      gives = attr-list-reading.gives (ident (run 1 1) mark.None ∷ []) 3;
+    }
+    -- `role="a"]`: nor did a role or an option, split out of a list that did
+    ∷ record {
+      entry = Block;
+      kinds = word ∷ equal_signs ∷ double_quote ∷ word ∷ double_quote ∷ close_bracket ∷ [];
+      lexemes = (114 ∷ 111 ∷ 108 ∷ 101 ∷ []) ∷ (61 ∷ []) ∷ (34 ∷ []) ∷ (97 ∷ []) ∷ (34 ∷ []) ∷ (93 ∷ []) ∷ [];
+      room = 36;
+      gives = attr-list-reading.gives (role (run 3 1) ∷ []) 6;
+    }
+    -- `opts='a,b']`
+    ∷ record {
+      entry = Block;
+      kinds = word ∷ equal_signs ∷ single_quote ∷ word ∷ comma ∷ word ∷ single_quote ∷ close_bracket ∷ [];
+      lexemes = (111 ∷ 112 ∷ 116 ∷ 115 ∷ []) ∷ (61 ∷ []) ∷ (39 ∷ []) ∷ (97 ∷ []) ∷ (44 ∷ []) ∷ (98 ∷ []) ∷ (39 ∷ []) ∷ (93 ∷ []) ∷ [];
+      room = 48;
+      gives = attr-list-reading.gives (option (run 3 1) ∷ option (run 5 1) ∷ []) 8;
+    }
+    -- `""]`: quotes with nothing between them
+    ∷ record {
+      entry = Block;
+      kinds = double_quote ∷ double_quote ∷ close_bracket ∷ [];
+      lexemes = (34 ∷ []) ∷ (34 ∷ []) ∷ (93 ∷ []) ∷ [];
+      room = 18;
+      gives = attr-list-reading.gives (positional (run 0 0) mark.Double ∷ []) 3;
+    }
+    -- `k=""]`
+    ∷ record {
+      entry = Block;
+      kinds = word ∷ equal_signs ∷ double_quote ∷ double_quote ∷ close_bracket ∷ [];
+      lexemes = (107 ∷ []) ∷ (61 ∷ []) ∷ (34 ∷ []) ∷ (34 ∷ []) ∷ (93 ∷ []) ∷ [];
+      room = 30;
+      gives = attr-list-reading.gives (named (run 0 1) (run 0 0) mark.Double ∷ []) 5;
+    }
+    -- `id=""]`: a diagnostic
+    ∷ record {
+      entry = Block;
+      kinds = word ∷ equal_signs ∷ double_quote ∷ double_quote ∷ close_bracket ∷ [];
+      lexemes = (105 ∷ 100 ∷ []) ∷ (61 ∷ []) ∷ (34 ∷ []) ∷ (34 ∷ []) ∷ (93 ∷ []) ∷ [];
+      room = 30;
+      gives = attr-list-reading.gives (diagnostic 0 3 ∷ []) 5;
+    }
+    -- `subs="a"]`: tag 8
+    ∷ record {
+      entry = Block;
+      kinds = word ∷ equal_signs ∷ double_quote ∷ word ∷ double_quote ∷ close_bracket ∷ [];
+      lexemes = (115 ∷ 117 ∷ 98 ∷ 115 ∷ []) ∷ (61 ∷ []) ∷ (34 ∷ []) ∷ (97 ∷ []) ∷ (34 ∷ []) ∷ (93 ∷ []) ∷ [];
+      room = 36;
+      gives = attr-list-reading.gives (plain (run 0 1) (run 3 1) mark.Double ∷ []) 6;
+    }
+    -- `"a]`: no two quotes of one kind
+    ∷ record {
+      entry = Block;
+      kinds = double_quote ∷ word ∷ close_bracket ∷ [];
+      lexemes = (34 ∷ []) ∷ (97 ∷ []) ∷ (93 ∷ []) ∷ [];
+      room = 18;
+      gives = attr-list-reading.gives (positional (run 0 2) mark.None ∷ []) 3;
+    }
+    -- `"a']`
+    ∷ record {
+      entry = Block;
+      kinds = double_quote ∷ word ∷ single_quote ∷ close_bracket ∷ [];
+      lexemes = (34 ∷ []) ∷ (97 ∷ []) ∷ (39 ∷ []) ∷ (93 ∷ []) ∷ [];
+      room = 24;
+      gives = attr-list-reading.gives (positional (run 0 3) mark.None ∷ []) 4;
+    }
+    -- `"{x}a"]`: an AttrRef between the quote and the run
+    ∷ record {
+      entry = Block;
+      kinds = double_quote ∷ attr_ref ∷ word ∷ double_quote ∷ close_bracket ∷ [];
+      lexemes = (34 ∷ []) ∷ (123 ∷ 120 ∷ 125 ∷ []) ∷ (97 ∷ []) ∷ (34 ∷ []) ∷ (93 ∷ []) ∷ [];
+      room = 30;
+      gives = attr-list-reading.gives (positional (run 2 1) mark.Double ∷ []) 5;
+    }
+    -- `"a".b]`: nothing was taken
+    ∷ record {
+      entry = Block;
+      kinds = double_quote ∷ word ∷ double_quote ∷ dots ∷ word ∷ close_bracket ∷ [];
+      lexemes = (34 ∷ []) ∷ (97 ∷ []) ∷ (34 ∷ []) ∷ (46 ∷ []) ∷ (98 ∷ []) ∷ (93 ∷ []) ∷ [];
+      room = 36;
+      gives = attr-list-reading.gives (positional (run 0 5) mark.None ∷ []) 6;
+    }
+    -- `a.b]`: what was cut
+    ∷ record {
+      entry = Block;
+      kinds = word ∷ dots ∷ word ∷ close_bracket ∷ [];
+      lexemes = (97 ∷ []) ∷ (46 ∷ []) ∷ (98 ∷ []) ∷ (93 ∷ []) ∷ [];
+      room = 24;
+      gives = attr-list-reading.gives (positional (run 0 1) mark.None ∷ role (run 2 1) ∷ []) 4;
+    }
+    -- `a."b"]`: quotes in the tail of a cut stay
+    ∷ record {
+      entry = Block;
+      kinds = word ∷ dots ∷ double_quote ∷ word ∷ double_quote ∷ close_bracket ∷ [];
+      lexemes = (97 ∷ []) ∷ (46 ∷ []) ∷ (34 ∷ []) ∷ (98 ∷ []) ∷ (34 ∷ []) ∷ (93 ∷ []) ∷ [];
+      room = 36;
+      gives = attr-list-reading.gives (positional (run 0 1) mark.None ∷ role (run 2 3) ∷ []) 6;
+    }
+    -- `"text"]`: a link's text
+    ∷ record {
+      entry = Link;
+      kinds = double_quote ∷ word ∷ double_quote ∷ close_bracket ∷ [];
+      lexemes = (34 ∷ []) ∷ (116 ∷ 101 ∷ 120 ∷ 116 ∷ []) ∷ (34 ∷ []) ∷ (93 ∷ []) ∷ [];
+      room = 24;
+      gives = attr-list-reading.gives (positional (run 1 1) mark.Double ∷ []) 4;
+    }
+    ∷ []
+
+pub quotes-hold : map computed (map marked_line quoted_lines) ≡ map marked_line quoted_lines
+unfolding text_of pairs_from token-line.token_at token-line.tokens token-line.some_over token-line.misplaced token-line.refusal runs-run.without runs-run.up_to runs-run.onward runs-run.last_of runs-run.front runs-run.kept runs-run.trim_start runs-run.leave runs-run.trim_end runs-run.trim runs-run.quote_mark runs-run.quoted runs-run.inside runs-run.unquote runs-run.run_of runs-names.bytes runs-names.same_bytes delimiters-count.counted delimiters-delimit.start delimiters-delimit.at_comma delimiters-delimit.rejoin delimiters-delimit.rejoin_times delimiters-delimit.rejoin_to delimiters-delimit.note delimiters-delimit.at_quote delimiters-delimit.step delimiters-delimit.after delimiters-delimit.dividing delimiters-delimit.parted delimiters-delimit.attributes closing-closing.last_bracket closing-closing.unescaped closing-closing.next_bracket closing-link.turn closing-link.look_from closing-link.link_macro attr-ir-look.symbol_sight attr-ir-look.sight attr-ir-look.look attr-ir-ir.name_tokens attr-ir-ir.value attr-ir-ir.value_mark attr-ir-ir.value_tokens attr-ir-ir.name_of attr-ir-ir.named_ir attr-ir-ir.key_value_ir attr-ir-ir.ir_as attr-ir-ir.attr_ir put-rows-rows.pieces put-rows-rows.shorthand_read put-rows-rows.later_groups put-rows-rows.groups put-rows-rows.group_rows put-rows-rows.id_read attribute-attribute.cut_read attribute-attribute.ir_read attribute-attribute.reading attribute-attribute.attribute_in attribute-attribute.attribute list-rows-list-rows.rows_from closing-closing.last_begins attr-list-reading.lent_refusal attr-list-reading.reading customize-subs-customizing.meta_answer customize-subs-customizing.meta_refusal customize-subs-customizing.meta_of customize-subs-customizing.start_of customize-subs-customizing.through customize-subs-customizing.stepped customize-subs-customizing.name_of customize-subs-customizing.strategy_of customize-subs-customizing.entered customize-subs-text.modified customize-subs-text.spaced customize-subs-text.back customize-subs-text.blank customize-subs-text.front customize-subs-text.split customize-subs-text.on_first subs-names-names.lookup_of subs-names-names.same substitutions-moves.answer substitutions-moves.refusal_of substitutions-moves.prepend_of substitutions-moves.remove_of substitutions-moves.insert_of substitutions-moves.led substitutions-moves.without substitutions-moves.filled substitutions-held.sound substitutions-held.held substitutions-held.spares substitutions-held.spare substitutions-held.covered substitutions-held.once substitutions-held.packed substitutions-held.empty substitutions-held.small substitutions-held.times substitutions-kinds.sum substitutions-kinds.each substitutions-kinds.flagged
+quotes-hold = refl

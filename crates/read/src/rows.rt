@@ -1,10 +1,11 @@
 // The rows that a reading finds, in words.
 use crate::tokens::Token;
 use row::diagnostic::Diagnostic;
-use row::tag::{NotATag, Tag};
+use row::tag::Tag;
 use row::{Row, WIDTH};
 use std::io;
 use token::kind::TokenKind;
+use token::quotes::QuoteMark;
 use token::{Run, TokenPlace};
 
 // A run of a row, which is told by two numbers.
@@ -15,15 +16,25 @@ fn run_of(place: u32, count: u32) -> Run {
     }
 }
 
-// The row that is told by its numbers. No `TryFrom`, since neither the trait nor the row is this crate's; in `row` it would be a public conversion with a
-// contract, for this one caller.
-fn row_of(numbers: [u32; WIDTH]) -> Result<Row, NotATag> {
-    let [tag, place, count, second_place, second_count] = numbers;
-    Ok(Row {
-        tag: Tag::try_from(tag)?,
+// The row that is told by its numbers; none, where no row has them. No `TryFrom`, since neither the trait nor the row is this crate's; in `row` it would be
+// a public conversion with a contract, for this one caller.
+fn row_of(numbers: [u32; WIDTH]) -> Option<Row> {
+    let [tag, place, count, second_place, second_count, mark] = numbers;
+    Some(Row {
+        tag: Tag::try_from(tag).ok()?,
         first: run_of(place, count),
         second: run_of(second_place, second_count),
+        mark: QuoteMark::try_from(mark).ok()?,
     })
+}
+
+// What is said of the quotes that were taken off a run.
+fn quotes_told(mark: QuoteMark) -> &'static str {
+    match mark {
+        QuoteMark::None => "",
+        QuoteMark::Double => ", in double quotes",
+        QuoteMark::Single => ", in single quotes",
+    }
 }
 
 // The tokens of a line, and their text as it is printed.
@@ -75,11 +86,12 @@ impl Shown<'_> {
         }
     }
 
-    // Writes a row on a line of its own.
+    // Writes a row on a line of its own, and which quotes stood round its last run.
     pub(crate) fn write_row(self, rt: &impl Print, numbers: [u32; WIDTH]) -> io::Result<()> {
         rt.write_all(b"  ")?;
-        if let Ok(row) = row_of(numbers) {
+        if let Some(row) = row_of(numbers) {
             self.write_words(rt, row)?;
+            rt.write_all(quotes_told(row.mark).as_bytes())?;
         }
         rt.write_all(b"\n")
     }

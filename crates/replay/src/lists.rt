@@ -9,7 +9,7 @@ use row::WIDTH;
 use std::io;
 
 // The most numbers of the row buffer, a few more than the library takes. A call with more is passed over.
-const MOST_ROWS: usize = 20600;
+const MOST_ROWS: usize = 24700;
 
 // What each number of the row buffer is before a call.
 const BEFORE: u32 = 4_000_000_000;

@@ -9,8 +9,10 @@
 #include <string.h>
 #include <time.h>
 
+enum { ROW = 6 };
+
 static uint8_t kinds[4096], text[65535];
-static uint32_t pairs[8192], rows[5 * 4096];
+static uint32_t pairs[8192], rows[ROW * 4096];
 static size_t tokens, bytes;
 
 enum { ATTR_REF = 3, CLOSE_BRACKET = 10, COMMA = 13, DOUBLE_QUOTE = 19, DOTS = 20, EQUAL_SIGNS = 23,
@@ -58,7 +60,7 @@ static double measure(void) {
         struct timespec a, b;
         clock_gettime(CLOCK_MONOTONIC, &a);
         for (int i = 0; i < 20; i++) {
-            telfjost_list answer = telfjost_block_attr_list(kinds, tokens, text, bytes, pairs, 2 * tokens, rows, 5 * tokens);
+            telfjost_list answer = telfjost_block_attr_list(kinds, tokens, text, bytes, pairs, 2 * tokens, rows, ROW * tokens);
             if (answer.refusal != 0) return -1;
         }
         clock_gettime(CLOCK_MONOTONIC, &b);

@@ -3,7 +3,8 @@
  * allocated with exactly the size that the call names, so that one byte too far is seen; the row
  * buffer is not set beforehand in half of the calls, so that reading it is seen too. Looks also at
  * what every answer must keep: the refusal is of the table, a refused call leaves the row buffer
- * and the set, no number behind the rows changes, and every row has a tag and runs in the line.
+ * and the set, no number behind the rows changes, and every row has a tag, runs in the line and a
+ * quote mark that its tag may have.
  *
  *   memory CALLS SEED
  */
@@ -13,7 +14,7 @@
 #include <stdlib.h>
 #include <string.h>
 
-enum { CLOSE_BRACKET = 10, COMMA = 13, OPEN_BRACKET = 34 };
+enum { ROW = 6, CLOSE_BRACKET = 10, COMMA = 13, OPEN_BRACKET = 34 };
 
 static uint64_t state;
 
@@ -142,12 +143,15 @@ static void look_at_rows(const struct line *l, const uint32_t *rows, telfjost_li
     if (a.rows > l->tokens || a.consumed == 0 || a.consumed > l->tokens)
         wrong("more rows or tokens than the line has");
     for (size_t r = 0; r < a.rows; r++) {
-        const uint32_t *row = rows + 5 * r;
+        const uint32_t *row = rows + ROW * r;
         if (row[0] < 1 || row[0] > 8)
             wrong("no such tag");
-        for (int k = 1; k < 5; k += 2)
+        for (int k = 1; k <= 3; k += 2)
             if (row[0] != 7 && (size_t)row[k] + row[k + 1] > a.consumed)
                 wrong("a run outside what is consumed");
+        bool marked = (row[0] >= 2 && row[0] <= 4) || row[0] == 8;
+        if (row[ROW - 1] > (marked ? 2 : 0))
+            wrong("no such quote mark");
     }
 }
 
@@ -155,7 +159,7 @@ static void one_list(void) {
     struct line l = some_line();
     if (below(3) == 0)
         damage(&l);
-    size_t room = 5 * l.tokens;
+    size_t room = ROW * l.tokens;
     if (below(8) == 0)
         room = below(2) ? room + below(9) : below((uint32_t)room + 1);
     uint32_t *rows = exactly(room * sizeof *rows), *before = NULL;
@@ -170,8 +174,9 @@ static void one_list(void) {
         wrong("no such refusal");
     if (a.refusal != 0 && (a.rows != 0 || a.consumed != 0))
         wrong("a refusal with rows");
-    if (before != NULL && room > 5 * a.rows &&
-        memcmp(rows + 5 * a.rows, before + 5 * a.rows, (room - 5 * a.rows) * sizeof *rows) != 0)
+    size_t written = ROW * a.rows;
+    if (before != NULL && room > written &&
+        memcmp(rows + written, before + written, (room - written) * sizeof *rows) != 0)
         wrong("a number behind the rows changed");
     if (a.refusal == 0)
         look_at_rows(&l, rows, a);

@@ -40,11 +40,9 @@ use std::time::{Duration, Instant};
 use library::Library;
 use lines::LineBuf;
 use page::Measured;
-use rust_side::{ENTRIES, Entry, Lent, Mode, NORMAL};
+use rust_side::{ENTRIES, Entry, Lent, Mode, NORMAL, ROW};
 use stand_in::Bump;
 
-/// Document 01's widths.
-const ROW: usize = 5;
 const LENGTHS: [usize; 6] = [3, 8, 20, 100, 1000, 4096];
 
 /// Attributes as report sheets have them, again and again.

@@ -3,9 +3,9 @@
 
 use crate::check::{Checked, SUBS_NAMES, Worker};
 use crate::lines::{HALVES, LineBuf, SIGNIFICANT, Tok, any_kinds_line, random_line, spoil_utf8};
-use crate::model::{self, MOST_BYTES, MOST_TOKENS, ROW};
+use crate::model::{self, MOST_BYTES, MOST_TOKENS};
 use crate::rng::Rng;
-use crate::rust_side::{ENTRIES, Entry, MODES, MOVES, Mode, NO_SUBS, NORMAL, Set};
+use crate::rust_side::{ENTRIES, Entry, MODES, MOVES, Mode, NO_SUBS, NORMAL, ROW, Set};
 use crate::token::TokenKind::*;
 
 /// A piece of work of one class.
@@ -75,10 +75,12 @@ fn each_line(every: &Every, first: usize, len: usize, f: &mut dyn FnMut(&LineBuf
     }
 }
 
-/// Room for the rows: mostly exactly enough, at times more, at times one number short.
+/// Room for the rows: mostly exactly enough, at times more, at times one number short, for the
+/// line or for each token.
 fn room(tokens: usize, turn: u32) -> usize {
     match turn % 16 {
         0 => ROW * tokens + 1 + (turn as usize / 16) % 11,
+        8 if turn % 64 == 8 => (ROW - 1) * tokens,
         8 => ROW * tokens - 1,
         _ => ROW * tokens,
     }
@@ -107,6 +109,16 @@ fn every_line(every: Every) -> Vec<Piece> {
 
 fn exhaustive_lists(more: usize) -> Vec<Piece> {
     let close = || vec![CLOSE];
+    let id: Tok = (Word, "id");
+    let subs: Tok = (Word, "subs");
+    let quotes = |before: &[Tok], entries| Every {
+        class: "every line, quotes around a text",
+        alphabet: vec![A, SPACE, COMMA, DOUBLE, SINGLE, REF],
+        before: before.to_vec(),
+        after: vec![CLOSE],
+        longest: 6 + more,
+        entries,
+    };
     let mid = vec![A, REF, SPACE, COMMA, DOUBLE, SINGLE, EQUAL, EQUALS, DOT, DOTS, HASH, CLOSE, OPEN, BACK];
     let sets = [
         Every {
@@ -167,7 +179,7 @@ fn exhaustive_lists(more: usize) -> Vec<Piece> {
         },
         Every {
             class: "every line, ids",
-            alphabet: vec![(Word, "id"), EQUAL, HASH, DOUBLE, COMMA, REF, A],
+            alphabet: vec![id, EQUAL, HASH, DOUBLE, COMMA, REF, A],
             before: vec![],
             after: close(),
             longest: 6 + more,
@@ -197,6 +209,10 @@ fn exhaustive_lists(more: usize) -> Vec<Piece> {
             longest: 4 + more,
             entries: BOTH_ENDS,
         },
+        quotes(&[], &ENTRIES),
+        quotes(&[A, EQUAL], BOTH_ENDS),
+        quotes(&[id, EQUAL], BOTH_ENDS),
+        quotes(&[subs, EQUAL], BOTH_ENDS),
         Every {
             class: "every line, links",
             alphabet: vec![A, DOUBLE, SINGLE, EQUAL, OPEN, CLOSE, BACK, REF, COMMA],
@@ -302,7 +318,7 @@ fn limits() -> Vec<Piece> {
                         }
                         line.push_all(&[CLOSE]);
                         for entry in ENTRIES {
-                            for numbers in [ROW * len, ROW * len - 1, ROW * len + 7] {
+                            for numbers in [ROW * len, ROW * len - 1, (ROW - 1) * len, ROW * len + 7] {
                                 worker.list(entry, line.lent(), numbers, len as u32)?;
                             }
                         }
@@ -371,8 +387,12 @@ fn damage(line: &mut LineBuf, rng: &mut Rng, fault: usize, numbers: &mut Option<
             line.pairs[2 * at + 1] = length;
         }
         7 if tokens > 0 => {
-            let short = ROW * tokens;
-            *numbers = Some(if rng.one_in(2) { short - 1 } else { rng.below(short) });
+            let due = ROW * tokens;
+            *numbers = Some(match rng.below(4) {
+                0 | 1 => due - 1,
+                2 => (ROW - 1) * tokens,
+                _ => rng.below(due),
+            });
         }
         8 if tokens > 0 => {
             line.kinds[tokens - 1] = *rng.pick(&[Word as u8, Comma as u8, OpenBracket as u8, Backslash as u8])

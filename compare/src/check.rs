@@ -4,9 +4,10 @@ use std::collections::BTreeMap;
 use std::fmt::Write as _;
 
 use crate::library::{Bool, Library, List, SetAnswer};
-use crate::model::{self, ROW};
-use crate::rust_side::{self, Entry, KINDS, Lent, Mode, Move, Outcome, STARTS, Set};
-use crate::stand_in::Row;
+use crate::model;
+use crate::numbers::{MARKED, Row, Unmarked};
+use crate::reading::Reading;
+use crate::rust_side::{self, Entry, KINDS, Lent, Mode, Move, Outcome, ROW, STARTS, Set};
 
 /// Numbers before and behind the row buffer that no call may touch.
 const GUARD: usize = 8;
@@ -17,6 +18,8 @@ pub struct Tally {
     pub cases: BTreeMap<&'static str, u64>,
     pub refusals: [u64; 12],
     pub tags: [u64; 9],
+    /// Rows of the tags of `MARKED`, by their marks.
+    pub marks: [[u64; 3]; MARKED.len()],
     pub diagnostics: [u64; 5],
     /// Moves by what they did: see `MOVED`.
     pub moves: [u64; 6],
@@ -46,6 +49,7 @@ impl Tally {
         let pairs = [
             (&mut self.refusals[..], &other.refusals[..]),
             (&mut self.tags[..], &other.tags[..]),
+            (self.marks.as_flattened_mut(), other.marks.as_flattened()),
             (&mut self.diagnostics[..], &other.diagnostics[..]),
             (&mut self.moves[..], &other.moves[..]),
         ];
@@ -62,11 +66,49 @@ impl Tally {
 /// A differing case, whole, in words.
 pub type Checked = Result<(), Box<String>>;
 
+/// What is due of a line that passed checks 1 to 6: the Rust's answer, and the harness's own
+/// reading, which must have the Rust's tokens consumed and the Rust's five numbers of each row.
+#[derive(Default)]
+pub struct Due {
+    /// The Rust's rows, also where this reader is to refuse the line.
+    pub rust: Vec<Unmarked>,
+    own: Reading,
+}
+
+impl Due {
+    /// Reads the line both ways; the Rust may be given another text of the same lengths.
+    pub fn read(&mut self, entry: Entry, line: Lent<'_>, rust_text: &[u8]) -> Result<Outcome, Box<String>> {
+        let outcome = rust_side::read(entry, Lent { text: rust_text, ..line }, &mut self.rust);
+        let consumed = self.own.read(entry, line);
+        let same = match outcome {
+            Outcome::Read(of_rust) => consumed == Some(of_rust) && self.same_rows(),
+            Outcome::OtherClosing(_) | Outcome::Panicked => consumed.is_none() && self.rows().is_empty(),
+        };
+        if same {
+            return Ok(outcome);
+        }
+        let mut words = describe_line(&format!("{entry:?}"), line);
+        let _ = writeln!(words, "the Rust: {outcome:?}, rows {:?}", self.rust);
+        let _ = writeln!(words, "the harness's own reading: consumed {consumed:?}, rows {:?}", self.rows());
+        Err(Box::new(words))
+    }
+
+    fn same_rows(&self) -> bool {
+        self.rust.len() == self.rows().len()
+            && self.rust.iter().zip(self.rows()).all(|(rust, own)| own.starts_with(rust))
+    }
+
+    /// The rows due, none where the line is refused.
+    pub fn rows(&self) -> &[Row] {
+        &self.own.rows
+    }
+}
+
 pub struct Worker<'l> {
     library: &'l Library,
     pub tally: Tally,
     pub class: &'static str,
-    pub rows: Vec<Row>,
+    due: Due,
     buffer: Vec<u32>,
 }
 
@@ -77,7 +119,7 @@ fn canary(salt: u32, at: usize) -> u32 {
 
 impl<'l> Worker<'l> {
     pub fn new(library: &'l Library) -> Self {
-        Worker { library, tally: Tally::default(), class: "", rows: Vec::new(), buffer: Vec::new() }
+        Worker { library, tally: Tally::default(), class: "", due: Due::default(), buffer: Vec::new() }
     }
 
     fn count(&mut self, refusal: usize) {
@@ -85,29 +127,36 @@ impl<'l> Worker<'l> {
         self.tally.refusals[refusal] += 1;
     }
 
-    /// What document 01 asks of a list's entry; the rows are left in `self.rows`.
-    pub fn expected(&mut self, entry: Entry, line: Lent<'_>, rust_text: &[u8], numbers: usize) -> List {
-        self.rows.clear();
+    /// What the documents ask of a list's entry; the rows are left in `self.rows()`.
+    pub fn expected(
+        &mut self,
+        entry: Entry,
+        line: Lent<'_>,
+        rust_text: &[u8],
+        numbers: usize,
+    ) -> Result<List, Box<String>> {
         let refused = |refusal| List { refusal, rows: 0, consumed: 0 };
         let early = match model::line_refusal(line.kinds, line.text, line.pairs) {
             0 => model::room_refusal(line.kinds.len(), numbers),
             refusal => refusal,
         };
         if early != 0 {
-            return refused(early);
+            self.due.own.rows.clear();
+            return Ok(refused(early));
         }
-        match rust_side::read(entry, Lent { text: rust_text, ..line }, &mut self.rows) {
-            Outcome::Read(consumed) => List { refusal: 0, rows: self.rows.len(), consumed },
+        Ok(match self.due.read(entry, line, rust_text)? {
+            Outcome::Read(consumed) => List { refusal: 0, rows: self.rows().len(), consumed },
             Outcome::OtherClosing(_) => {
                 self.tally.other_closing += 1;
-                self.rows.clear();
                 refused(8)
             }
-            Outcome::Panicked => {
-                self.rows.clear();
-                refused(8)
-            }
-        }
+            Outcome::Panicked => refused(8),
+        })
+    }
+
+    /// The rows due of the last line, none where it is refused.
+    pub fn rows(&self) -> &[Row] {
+        self.due.rows()
     }
 
     /// A list's entry with a row buffer of `numbers` numbers.
@@ -127,7 +176,7 @@ impl<'l> Worker<'l> {
         if !self.library.has_list(entry) {
             return Ok(());
         }
-        let expected = self.expected(entry, line, rust_text, numbers);
+        let expected = self.expected(entry, line, rust_text, numbers)?;
         self.buffer.clear();
         self.buffer.extend((0..numbers + 2 * GUARD).map(|at| canary(salt, at)));
         let Some(given) =
@@ -136,10 +185,13 @@ impl<'l> Worker<'l> {
             return Ok(());
         };
         self.count(expected.refusal);
-        for row in &self.rows {
-            self.tally.tags[row[0] as usize] += 1;
-            if row[0] == 7 {
-                self.tally.diagnostics[row[2] as usize] += 1;
+        for [tag, _, number, .., mark] in self.due.rows() {
+            self.tally.tags[*tag as usize] += 1;
+            if *tag == 7 {
+                self.tally.diagnostics[*number as usize] += 1;
+            }
+            if let Some(at) = MARKED.iter().position(|marked| marked == tag) {
+                self.tally.marks[at][*mark as usize] += 1;
             }
         }
         if given == expected && self.buffer_is_right(salt) {
@@ -154,7 +206,7 @@ impl<'l> Worker<'l> {
             .collect();
         let mut words = describe_line(&format!("{entry:?}"), line);
         let _ = writeln!(words, "row buffer: {numbers} numbers, {} would do", ROW * line.kinds.len());
-        let _ = writeln!(words, "due:   {expected:?}, rows {:?}", self.rows);
+        let _ = writeln!(words, "due:   {expected:?}, rows {:?}", self.rows());
         let _ = writeln!(
             words,
             "given: {given:?}, numbers changed (place, number), counted from the buffer's start:"
@@ -167,8 +219,8 @@ impl<'l> Worker<'l> {
     }
 
     fn buffer_is_right(&self, salt: u32) -> bool {
-        let rows = self.rows.iter().flatten();
-        let written = ROW * self.rows.len();
+        let rows = self.rows().as_flattened();
+        let written = rows.len();
         let (front, rest) = self.buffer.split_at(GUARD);
         front.iter().enumerate().all(|(at, number)| *number == canary(salt, at))
             && rest.len() >= written

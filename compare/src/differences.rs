@@ -17,8 +17,7 @@ use crate::check::{Worker, expected_set};
 use crate::explained::{self, Digest, written};
 use crate::library::Library;
 use crate::lines::LineBuf;
-use crate::model::ROW;
-use crate::rust_side::{self, Entry, Mode};
+use crate::rust_side::{self, Entry, Mode, ROW};
 use crate::tables;
 use crate::words;
 

@@ -15,6 +15,7 @@ mod model;
 mod numbers;
 #[allow(dead_code)]
 mod parser;
+mod reading;
 mod record;
 mod rng;
 mod rust_side;
@@ -36,9 +37,9 @@ use std::sync::atomic::{AtomicUsize, Ordering};
 use std::time::{Duration, Instant, SystemTime};
 
 use cases::Piece;
-use check::{MOVED, Tally, Worker};
+use check::{Due, MOVED, Tally, Worker};
 use library::Library;
-use numbers::{MODES, Mode};
+use numbers::{MARKED, MODES, Mode};
 
 const SEED: u64 = 0x7e1f_1057;
 const THREADS: usize = 2;
@@ -90,7 +91,7 @@ fn grouped(n: u64) -> String {
 
 fn report(tally: &Tally, seconds: f64) {
     let total: u64 = tally.cases.values().sum();
-    println!("compared with the Rust, every number of every answer:");
+    println!("compared with the Rust (quote marks: with the harness's own reading), every number:");
     for (class, count) in &tally.cases {
         println!("  {:>12}  {class}", grouped(*count));
     }
@@ -113,6 +114,14 @@ fn report(tally: &Tally, seconds: f64) {
         if counts.iter().any(|n| *n > 0) {
             println!("{what}: {}", numbered(counts));
         }
+    }
+    if tally.marks.as_flattened().iter().any(|n| *n > 0) {
+        let shown: Vec<String> = MARKED
+            .iter()
+            .zip(&tally.marks)
+            .map(|(tag, counts)| format!("{tag}: {}", counts.map(grouped).join(" ")))
+            .collect();
+        println!("rows by tag and quote mark (0, 1, 2): {}", shown.join("; "));
     }
     let did: Vec<String> =
         MOVED.iter().zip(tally.moves).map(|(did, n)| format!("{did} {}", grouped(n))).collect();
@@ -154,6 +163,10 @@ fn telling(library: &Library, tally: &Tally) -> bool {
     if lists {
         missing.extend((1..9).filter(|tag| tally.tags[*tag] < 1000).map(|tag| format!("tag {tag}")));
         missing.extend((1..5).filter(|d| tally.diagnostics[*d] < 1000).map(|d| format!("diagnostic {d}")));
+        for (tag, counts) in MARKED.iter().zip(tally.marks) {
+            let few = (0..3).filter(|mark| counts[*mark] < 1000);
+            missing.extend(few.map(|mark| format!("tag {tag} with the mark {mark}")));
+        }
     }
     let moved = MODES.iter().all(|mode| library.has_moves(*mode));
     missing.extend(
@@ -172,12 +185,14 @@ fn telling(library: &Library, tally: &Tally) -> bool {
 fn usage() -> ExitCode {
     eprintln!(
         "usage: compare                            the self-test, then the comparison at the gate's size
-       compare --self-test                the Rust side alone
+       compare --self-test                the Rust side and the harness's own reading alone
        compare --record                   makes the recorded answers anew
        compare --minutes N [--seed S]     the comparison, longer, then fresh random cases until N minutes are over
-       compare --line ENTRY TEXT          what the Rust gives for a line (block, macro, inline, link; is: whether
-                                          the line, opening bracket and all, is a block attribute list)
-       compare --lines ENTRY              the same for each line of the standard input, in words
+       compare --line ENTRY TEXT          what the Rust gives for a line, and the quote marks (block, macro, inline,
+                                          link; is: whether the line, opening bracket and all, is a block attribute
+                                          list)
+       compare --lines ENTRY              what the Rust gives for each line of the standard input, in words, without
+                                          the quote marks
        compare --our-side                 differences.txt with the sides of the Rust and of this reader made anew
        compare --page                     whether every table of docs/DIFFERENCES.md is as differences.txt records
        compare --texts                    the subs texts by which the differences are explained"
@@ -279,7 +294,8 @@ fn main() -> ExitCode {
     ExitCode::SUCCESS
 }
 
-/// What the Rust gives for a line of plain text.
+/// What the Rust gives for a line of plain text, and the quote marks; no marks where this reader
+/// refuses what the Rust takes.
 fn show_line(entry: &str, text: &str) -> ExitCode {
     let line = lines::LineBuf::lex(text);
     if line.kinds.is_empty() {
@@ -290,13 +306,21 @@ fn show_line(entry: &str, text: &str) -> ExitCode {
         return ExitCode::SUCCESS;
     }
     let Some(entry) = words::entry_of(entry) else { return usage() };
-    let mut rows = Vec::new();
-    let outcome = rust_side::read(entry, line.lent(), &mut rows);
-    println!("{outcome:?}");
-    if outcome != rust_side::Outcome::Panicked {
-        for row in rows {
-            println!("  {row:?}  {}", words::row(&line, row));
+    let mut due = Due::default();
+    let outcome = match due.read(entry, line.lent(), &line.text) {
+        Ok(outcome) => outcome,
+        Err(words) => {
+            println!("DIFFERENT: {words}");
+            return ExitCode::FAILURE;
         }
+    };
+    println!("{outcome:?}");
+    let rows: Vec<&[u32]> = match outcome {
+        rust_side::Outcome::OtherClosing(_) => due.rust.iter().map(|row| &row[..]).collect(),
+        _ => due.rows().iter().map(|row| &row[..]).collect(),
+    };
+    for row in rows {
+        println!("  {row:?}  {}", words::row(&line, row));
     }
     ExitCode::SUCCESS
 }

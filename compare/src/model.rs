@@ -2,11 +2,10 @@
 //! (refusals 1 to 7 and 9 to 11, which the Rust does not have), and sheet mode, which the Rust
 //! does not have either.
 
-use crate::numbers::{Mode, Move, Set};
+use crate::numbers::{Mode, Move, ROW, Set};
 
 pub const MOST_TOKENS: usize = 4096;
 pub const MOST_BYTES: usize = 65_535;
-pub const ROW: usize = 5;
 
 /// Checks 1 to 6: the first that applies, or 0.
 pub fn line_refusal(kinds: &[u8], text: &[u8], pairs: &[u32]) -> usize {

@@ -1,5 +1,5 @@
-//! Document 01's numbers and the Rust's names for them: kinds, substitutions, entries, sets, their
-//! moves, and a line as it is lent.
+//! The documents' numbers and the Rust's names for them: kinds, substitutions, entries, rows, sets,
+//! their moves, and a line as it is lent.
 
 use crate::substitutions::{Subs, Substitutions};
 use crate::token::TokenKind;
@@ -97,6 +97,20 @@ impl<'t> Lent<'t> {
         &self.text[offset..offset + self.pairs[2 * place + 1] as usize]
     }
 }
+
+// ---- rows
+
+/// How many numbers a row has: tag, two runs, quote mark.
+pub const ROW: usize = 6;
+
+/// A row. The mark says which quotes were taken off its run: 0 none, 1 double, 2 single.
+pub type Row = [u32; ROW];
+
+/// What the Rust gives of a row: all but the mark.
+pub type Unmarked = [u32; ROW - 1];
+
+/// The tags whose rows have a mark, where the run went through unquoting.
+pub const MARKED: [u32; 4] = [2, 3, 4, 8];
 
 // ---- sets
 

@@ -1,15 +1,15 @@
 //! The recorded answers: a fixed choice of calls for the program `replay`, and what the Rust
-//! answers to them (sheet mode, which the Rust does not have: what the model answers). The
-//! script `record` says what each number means.
+//! answers to them (sheet mode and the quote marks, which the Rust does not have: what the model
+//! and the harness's own reading answer). The script `record` says what each number means.
 
 use std::fmt::Write as _;
 
 use crate::check::{Worker, expected_set};
 use crate::library::Library;
 use crate::lines::{LineBuf, any_kinds_line, random_line, spoil_utf8};
-use crate::model::{self, MOST_BYTES, MOST_TOKENS, ROW};
+use crate::model::{self, MOST_BYTES, MOST_TOKENS};
 use crate::rng::Rng;
-use crate::rust_side::{self, ENTRIES, Entry, Lent, Mode, NORMAL, Set};
+use crate::rust_side::{self, ENTRIES, Entry, Lent, Mode, NORMAL, ROW, Set};
 use crate::token::TokenKind;
 
 pub const STDIN: &str = "../crates/replay/stdin";
@@ -50,9 +50,10 @@ impl Recorded {
         let _ = writeln!(self.calls, " {numbers}");
         let none = Library::default();
         let mut worker = Worker::new(&none);
-        let answer = worker.expected(entry, line, rust_text, numbers);
+        let answer =
+            worker.expected(entry, line, rust_text, numbers).unwrap_or_else(|words| panic!("{words}"));
         let _ = write!(self.answers, "{} {} {}", answer.refusal, answer.rows, answer.consumed);
-        for number in worker.rows.iter().flatten() {
+        for number in worker.rows().as_flattened() {
             let _ = write!(self.answers, " {number}");
         }
         self.answers.push_str(" 0\n");
@@ -85,7 +86,7 @@ impl Recorded {
 }
 
 /// Lines that the documents speak of.
-const LINES: [&str; 52] = [
+const LINES: [&str; 69] = [
     "]",
     "]a",
     "a]",
@@ -138,6 +139,23 @@ const LINES: [&str; 52] = [
     "\"a]b\"]",
     "a\"b=c\"d]",
     "quote,Mr X,Letters]",
+    "\"\"]",
+    "''{x}]",
+    "k=\"\"]",
+    "k='v']",
+    "k=\"v']",
+    "id=\"x\"]",
+    "id='x']",
+    "#x]",
+    "role=\"a\"]",
+    "opts='a,b']",
+    "subs='a',cols=\"1,2\"]",
+    "\"{x}a\"]",
+    "{x}'a'{x}]",
+    "k={x}\"a{x}\"]",
+    "k= 'a' ]",
+    "\"a\".b]",
+    "a.b\"c\"]",
 ];
 
 /// The lines that are recorded: those of the documents, random ones, damaged ones, long ones.
@@ -298,6 +316,7 @@ pub fn recorded(listed: &[&str]) -> Recorded {
             let numbers = match turn % 8 {
                 0 => ROW * tokens + 3,
                 4 if turn > LINES.len() => (ROW * tokens).saturating_sub(1),
+                6 if turn > LINES.len() => (ROW - 1) * tokens,
                 _ => ROW * tokens,
             };
             out.list(entry, line.lent(), &for_rust, numbers);

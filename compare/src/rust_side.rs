@@ -1,4 +1,5 @@
-//! The answers of the Rust, in document 01's numbers.
+//! The answers of the Rust, in document 01's numbers: a row without its quote mark, which the Rust
+//! does not have.
 
 use std::cell::{Cell, RefCell};
 use std::collections::BTreeMap;
@@ -8,7 +9,7 @@ use crate::customize_subs;
 use crate::deq::Deq;
 use crate::line::Line;
 use crate::parser::{Parser, SourceLocation};
-use crate::stand_in::{Bump, BumpString, MultiAttrList, Row};
+use crate::stand_in::{Bump, BumpString, MultiAttrList};
 use crate::substitutions::Substitutions;
 use crate::token::{Token, TokenKind};
 
@@ -39,7 +40,7 @@ fn line_of<'b>(lent: Lent<'b>, bump: &'b Bump) -> Line<'b> {
 }
 
 /// Reads a line that passed checks 1 to 6. The rows go to `rows`.
-pub fn read(entry: Entry, lent: Lent<'_>, rows: &mut Vec<Row>) -> Outcome {
+pub fn read(entry: Entry, lent: Lent<'_>, rows: &mut Vec<Unmarked>) -> Outcome {
     rows.clear();
     let bump = Bump { log: RefCell::new(std::mem::take(rows)) };
     let outcome = {

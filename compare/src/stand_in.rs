@@ -9,6 +9,7 @@ use std::marker::PhantomData;
 use std::ops::{Deref, DerefMut};
 
 use crate::deq::Deq;
+use crate::numbers::Unmarked;
 use crate::parser::{
     ContiguousLines, Inline, InlineCtx, MultiSourceLocation, Parser, Result, SourceLocation,
 };
@@ -18,17 +19,14 @@ use crate::unreached::missing;
 
 // ---- the arena, with the one event log
 
-/// A row as document 01 numbers it: tag and two runs.
-pub type Row = [u32; 5];
-
 /// Stands in for the arena. It owns the event log of one call.
 #[derive(Default)]
 pub struct Bump {
-    pub log: RefCell<Vec<Row>>,
+    pub log: RefCell<Vec<Unmarked>>,
 }
 
 impl Bump {
-    fn note(&self, row: Row) {
+    fn note(&self, row: Unmarked) {
         self.log.borrow_mut().push(row);
     }
 }

@@ -2,7 +2,6 @@
 
 use crate::lines::LineBuf;
 use crate::rust_side::{self, Entry, Outcome};
-use crate::stand_in::Row;
 use crate::token::TokenKind;
 
 /// The entries by the names that `--line` and the record of differences call them by.
@@ -25,7 +24,8 @@ fn shown(line: &LineBuf, place: u32, count: u32) -> String {
     format!("`{}`", String::from_utf8(bytes).unwrap_or_default())
 }
 
-pub fn row(line: &LineBuf, row: Row) -> String {
+/// A row in words; its mark is not told.
+pub fn row(line: &LineBuf, row: &[u32]) -> String {
     let first = || shown(line, row[1], row[2]);
     let second = || shown(line, row[3], row[4]);
     match row[0] {
@@ -44,7 +44,7 @@ pub fn row(line: &LineBuf, row: Row) -> String {
 pub fn answer(entry: Entry, line: &LineBuf) -> String {
     let mut rows = Vec::new();
     let outcome = rust_side::read(entry, line.lent(), &mut rows);
-    let rows: Vec<String> = rows.into_iter().map(|numbers| row(line, numbers)).collect();
+    let rows: Vec<String> = rows.into_iter().map(|numbers| row(line, &numbers)).collect();
     let words = rows.join("; ");
     match outcome {
         Outcome::Panicked => "refused (8)".to_string(),

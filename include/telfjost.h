@@ -27,7 +27,7 @@
  *   4  not two numbers in `pairs` for each kind
  *   5  some kind is over 50
  *   6  a pair starts before the previous one ends, or ends past the text
- *   7  `rows` holds under 5 numbers for each token
+ *   7  `rows` holds under 6 numbers for each token
  *   8  there is no closing bracket, as the entry asks for one
  *   9  the text of a subs attribute is over 65,535 bytes
  *   10 the set is not held
@@ -62,27 +62,32 @@ telfjost_bool telfjost_is_block_attr_list(const uint8_t *kinds, size_t kinds_len
 /* What a list was read as. */
 typedef struct {
     size_t refusal;  /* 0, or 1 to 8; then the other two are 0 and `rows` was not written to */
-    size_t rows;     /* rows written, five numbers each, from the start of `rows` */
+    size_t rows;     /* rows written, six numbers each, from the start of `rows` */
     size_t consumed; /* tokens consumed, the closing bracket among them */
 } telfjost_list;
 
 /*
- * The four readings. The line begins after the opening bracket. `rows` must hold five numbers
+ * The four readings. The line begins after the opening bracket. `rows` must hold six numbers
  * for each token (refusal 7 otherwise), which is always enough; the numbers behind the rows
  * written keep what they had, and on a refusal all of them do.
  *
- * A row is five numbers: a tag, then two runs. A run is the place of its first token and how
- * many tokens it has, first kept token to last; AttrRef tokens inside it are skipped by whoever
- * reads it; an empty run is 0, 0. Unused numbers are 0.
+ * A row is six numbers: a tag, then two runs, then a quote mark. A run is the place of its first
+ * token and how many tokens it has, first kept token to last; AttrRef tokens inside it are skipped
+ * by whoever reads it; an empty run is 0, 0. Unused numbers are 0.
  *
- *   tag 1  a positional attribute, empty
- *   tag 2  a positional attribute: its run
- *   tag 3  a named attribute: name, value; the value is read under attr_value
- *   tag 4  the id: its run
- *   tag 5  a role: its run
- *   tag 6  an option: its run
- *   tag 7  a diagnostic: place, number, 0, 0
- *   tag 8  a named attribute called subs or cols: name, value; the value is read under none
+ * The quote mark says which quotes the reader took off the run: 0 none, 1 double, 2 single. The
+ * tokens beside a run do not tell it: `""` and `k=""` have the mark 1 and the run 0, 0, and AttrRef
+ * tokens may stand between a run and its quotes.
+ *
+ *   tag 1  a positional attribute, empty; mark 0
+ *   tag 2  a positional attribute: its run; the run's mark, 0 where shorthand was cut off (a.b)
+ *   tag 3  a named attribute: name, value; the value is read under attr_value; the value's mark
+ *   tag 4  the id: its run; the run's mark for id="a", 0 for #a
+ *   tag 5  a role: its run; mark 0, also for role="a b"
+ *   tag 6  an option: its run; mark 0, also for opts="a,b"
+ *   tag 7  a diagnostic: place, number, 0, 0; mark 0
+ *   tag 8  a named attribute called subs or cols: name, value; the value is read under none; the
+ *          value's mark
  *
  * Rows stand in reading order, repeated names are all there. Diagnostics, with which reading
  * goes on: 1 Invalid id attribute; 2 Invalid attr list; 3 Invalid empty id attribute (place 0,

@@ -1,4 +1,5 @@
-//! Reads one attribute line of a report sheet and prints its rows in words.
+//! Reads one attribute line of a report sheet and prints its rows in words, each text in the quotes
+//! in which the author had it.
 
 use telfjost::{Kind, Line, Refusal, Row};
 
@@ -30,11 +31,11 @@ fn main() -> Result<(), Refusal> {
     for row in list.rows() {
         match row {
             Row::EmptyPositional => println!("positional, empty"),
-            Row::Positional(run) => println!("positional {}", list.text_of(run)),
-            Row::Named { name, value, .. } => {
-                println!("named {} = {}", list.text_of(name), list.text_of(value))
+            Row::Positional { run, quotes } => println!("positional {quotes}{}{quotes}", list.text_of(run)),
+            Row::Named { name, value, quotes, .. } => {
+                println!("named {} = {quotes}{}{quotes}", list.text_of(name), list.text_of(value))
             }
-            Row::Id(run) => println!("id {}", list.text_of(run)),
+            Row::Id { run, quotes } => println!("id {quotes}{}{quotes}", list.text_of(run)),
             Row::Role(run) => println!("role {}", list.text_of(run)),
             Row::Option(run) => println!("option {}", list.text_of(run)),
             Row::Diagnostic { place, kind } => println!("{kind}, at token {place}"),

@@ -5,7 +5,7 @@ use crate::sys;
 use crate::{Lent, Refusal, Run, Text};
 
 /// How many numbers a row has.
-const ROW: usize = 5;
+const ROW: usize = 6;
 
 /// Past so many tokens a line is refused (2) whatever the room.
 const MOST_TOKENS: usize = 4096;
@@ -15,8 +15,13 @@ const MOST_TOKENS: usize = 4096;
 pub enum Row {
     /// Tag 1: a positional attribute that is empty.
     EmptyPositional,
-    /// Tag 2: a positional attribute.
-    Positional(Run),
+    /// Tag 2: a positional attribute, or a link's text.
+    Positional {
+        /// Its text.
+        run: Run,
+        /// The quotes that were taken off it. Where shorthand was cut off behind it (`a.b`) it has none.
+        quotes: Quotes,
+    },
     /// Tags 3 and 8: a named attribute. Repeats are kept, in reading order.
     Named {
         /// The name.
@@ -26,12 +31,19 @@ pub enum Row {
         /// The name is `subs` or `cols` and the value is to be read under no substitutions
         /// (tag 8), else under `attr_value` (tag 3).
         plain: bool,
+        /// The quotes that were taken off the value.
+        quotes: Quotes,
     },
     /// Tag 4: the id.
-    Id(Run),
-    /// Tag 5: a role.
+    Id {
+        /// Its text.
+        run: Run,
+        /// The quotes that were taken off it. In shorthand (`#a`) it has none.
+        quotes: Quotes,
+    },
+    /// Tag 5: a role. Quotes around the list of roles are not told.
     Role(Run),
-    /// Tag 6: an option.
+    /// Tag 6: an option. Quotes around the list of options are not told.
     Option(Run),
     /// Tag 7: a diagnostic; reading went on.
     Diagnostic {
@@ -40,6 +52,62 @@ pub enum Row {
         /// What it says.
         kind: Diagnostic,
     },
+}
+
+/// Which quotes the reader took off a run: the last number of a row.
+///
+/// They are read from the whole line, and the tokens beside a run do not tell them: in `k=""` they
+/// are double and the value is an empty run, which has no place.
+///
+/// An editor puts them around the text again, to write it in the author's quotes:
+///
+/// ```
+/// use telfjost::{Kind, Line, Quotes, Row};
+///
+/// // title='Glucose, fasting']
+/// let line: Line = [
+///     (Kind::Word, "title"), (Kind::EqualSigns, "="), (Kind::SingleQuote, "'"), (Kind::Word, "Glucose"),
+///     (Kind::Comma, ","), (Kind::Whitespace, " "), (Kind::Word, "fasting"), (Kind::SingleQuote, "'"),
+///     (Kind::CloseBracket, "]"),
+/// ]
+/// .into_iter()
+/// .collect();
+/// let list = line.lent().block_attr_list()?;
+/// let Some(Row::Named { value, quotes, .. }) = list.rows().next() else { panic!("one named row") };
+/// assert_eq!((list.text_of(value).to_string().as_str(), quotes), ("Glucose, fasting", Quotes::Single));
+/// assert_eq!(format!("{quotes}{}{quotes}", list.text_of(value)), "'Glucose, fasting'");
+/// # Ok::<(), telfjost::Refusal>(())
+/// ```
+#[derive(Debug, Clone, Copy, PartialEq, Eq, Hash, Default)]
+pub enum Quotes {
+    /// 0: none were taken off.
+    #[default]
+    None,
+    /// 1: a pair of double quotes.
+    Double,
+    /// 2: a pair of single quotes.
+    Single,
+}
+
+impl Quotes {
+    const ALL: [Quotes; 3] = [Quotes::None, Quotes::Double, Quotes::Single];
+
+    /// Its number in a row, 0 to 2.
+    pub fn number(self) -> usize {
+        self as usize
+    }
+
+    /// One quote of the pair: `"` or `'`, or nothing.
+    pub fn mark(self) -> &'static str {
+        ["", "\"", "'"][self as usize]
+    }
+}
+
+impl fmt::Display for Quotes {
+    /// Prints one quote of the pair.
+    fn fmt(&self, f: &mut fmt::Formatter<'_>) -> fmt::Result {
+        f.pad(self.mark())
+    }
 }
 
 /// What a diagnostic says: the four of docs/RULES.md.
@@ -78,14 +146,16 @@ impl fmt::Display for Diagnostic {
 impl Row {
     fn of(numbers: &[u32]) -> Row {
         let run = |at: usize| Run { place: numbers[at] as usize, count: numbers[at + 1] as usize };
-        match numbers[0] {
-            1 => Row::EmptyPositional,
-            2 => Row::Positional(run(1)),
-            tag @ (3 | 8) => Row::Named { name: run(1), value: run(3), plain: tag == 8 },
-            4 => Row::Id(run(1)),
-            5 => Row::Role(run(1)),
-            6 => Row::Option(run(1)),
-            7 if (1..=4).contains(&numbers[2]) => Row::Diagnostic {
+        match (numbers[0], Quotes::ALL.get(numbers[ROW - 1] as usize).copied()) {
+            (1, Some(Quotes::None)) => Row::EmptyPositional,
+            (2, Some(quotes)) => Row::Positional { run: run(1), quotes },
+            (tag @ (3 | 8), Some(quotes)) => {
+                Row::Named { name: run(1), value: run(3), plain: tag == 8, quotes }
+            }
+            (4, Some(quotes)) => Row::Id { run: run(1), quotes },
+            (5, Some(Quotes::None)) => Row::Role(run(1)),
+            (6, Some(Quotes::None)) => Row::Option(run(1)),
+            (7, Some(Quotes::None)) if (1..=4).contains(&numbers[2]) => Row::Diagnostic {
                 place: numbers[1] as usize,
                 kind: Diagnostic::WORDS[numbers[2] as usize - 1].0,
             },
@@ -128,7 +198,7 @@ impl<'l> List<'l> {
     pub fn positional(&self) -> impl Iterator<Item = Option<Text<'l>>> + '_ {
         self.rows().filter_map(|row| match row {
             Row::EmptyPositional => Some(None),
-            Row::Positional(run) => Some(Some(self.text_of(run))),
+            Row::Positional { run, .. } => Some(Some(self.text_of(run))),
             _ => None,
         })
     }
@@ -150,7 +220,7 @@ impl<'l> List<'l> {
     /// The id.
     pub fn id(&self) -> Option<Text<'l>> {
         self.rows().find_map(|row| match row {
-            Row::Id(run) => Some(self.text_of(run)),
+            Row::Id { run, .. } => Some(self.text_of(run)),
             _ => None,
         })
     }

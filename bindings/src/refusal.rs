@@ -18,7 +18,7 @@ pub enum Refusal {
     KindTooLarge,
     /// 6: a pair starts before the previous one ends, or ends past the text.
     PairsNotInOrder,
-    /// 7: the row buffer holds under 5 × tokens numbers. Nothing in this crate leads to it,
+    /// 7: the row buffer holds under 6 × tokens numbers. Nothing in this crate leads to it,
     /// since it sizes the buffer itself.
     RowsTooShort,
     /// 8: the line has no closing bracket as its entry asks for one.
@@ -41,7 +41,7 @@ const WORDS: [(Refusal, &str, &str); 11] = [
     (Refusal::PairsNotTwo, "pairs", "not two numbers for each kind"),
     (Refusal::KindTooLarge, "kinds", "some kind over 50"),
     (Refusal::PairsNotInOrder, "pairs", "one starts before the previous ends, or ends past the text"),
-    (Refusal::RowsTooShort, "row buffer", "under 5 × tokens"),
+    (Refusal::RowsTooShort, "row buffer", "under 6 × tokens"),
     (Refusal::NoClosingBracket, "closing bracket", "none"),
     (Refusal::SubsTextTooLong, "subs text", "over 65,535 bytes"),
     (Refusal::SetNotHeld, "set", "not held"),

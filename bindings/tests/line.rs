@@ -89,4 +89,5 @@ fn kinds_and_refusals_by_number() {
         assert!(refusal.to_string().starts_with(&format!("refusal {number}")));
     }
     assert_eq!(Refusal::KindTooLarge.to_string(), "refusal 5: kinds: some kind over 50");
+    assert_eq!(Refusal::RowsTooShort.to_string(), "refusal 7: row buffer: under 6 × tokens");
 }

@@ -1,6 +1,6 @@
 //! The four readings: lines and their rows, the bounds, and the iterators.
 
-use telfjost::{Diagnostic, Entry, Kind, Lent, Line, Reader, Refusal, Row, Run};
+use telfjost::{Diagnostic, Entry, Kind, Lent, Line, Quotes, Reader, Refusal, Row, Run};
 
 /// Each mark is one token; `...` and `==` too.
 fn line(text: &str) -> Line {
@@ -32,43 +32,97 @@ fn run(place: usize, count: usize) -> Run {
     Run { place, count }
 }
 
-fn named(name: Run, value: Run) -> Row {
-    Row::Named { name, value, plain: false }
+fn positional(run: Run, quotes: Quotes) -> Row {
+    Row::Positional { run, quotes }
+}
+
+fn named(name: Run, value: Run, quotes: Quotes) -> Row {
+    Row::Named { name, value, plain: false, quotes }
+}
+
+fn plain(name: Run, value: Run, quotes: Quotes) -> Row {
+    Row::Named { name, value, plain: true, quotes }
+}
+
+fn id(run: Run, quotes: Quotes) -> Row {
+    Row::Id { run, quotes }
 }
 
 fn noted(place: usize, kind: Diagnostic) -> Row {
     Row::Diagnostic { place, kind }
 }
 
-#[test]
-fn the_bench() {
-    use Row::{EmptyPositional, Id, Option, Positional, Role};
-    let cases: [(Entry, &str, &[Row], usize); 17] = [
-        (Entry::Block, "]", &[], 1),
-        (Entry::Block, "a,b]", &[Positional(run(0, 1)), Positional(run(2, 1))], 4),
-        (Entry::Block, "a,]", &[Positional(run(0, 1)), EmptyPositional], 3),
-        (Entry::Block, "k=\"a,b\",c]", &[named(run(0, 1), run(3, 3)), Positional(run(8, 1))], 10),
-        (Entry::Block, "\",'\",']", &[Positional(run(1, 2)), Positional(run(5, 1))], 7),
-        (Entry::Block, "a==b=c]", &[named(run(0, 1), run(2, 3))], 6),
-        (Entry::Block, ".x#y%]", &[Role(run(1, 1)), Id(run(3, 1)), noted(4, Diagnostic::InvalidId)], 6),
-        (Entry::Block, "#%o]", &[Id(run(0, 0)), Option(run(2, 1))], 4),
-        (Entry::Block, "a...b.c]", &[Positional(run(0, 1)), noted(1, Diagnostic::InvalidList)], 6),
-        (Entry::Block, "id=\"\"]", &[noted(0, Diagnostic::EmptyId)], 5),
-        (Entry::Block, "#a#b]", &[Id(run(1, 1)), noted(2, Diagnostic::SecondId)], 5),
-        (Entry::Block, "subs=q]", &[Row::Named { name: run(0, 1), value: run(2, 1), plain: true }], 4),
-        (Entry::BlockMacro, ".x]", &[Positional(run(0, 2))], 3),
-        (Entry::InlineMacro, "a\\]b]c", &[Positional(run(0, 4))], 5),
-        (Entry::LinkMacro, "a b]", &[Positional(run(0, 3))], 4),
-        (Entry::LinkMacro, "a=b]", &[named(run(0, 1), run(2, 1))], 4),
-        (Entry::LinkMacro, "[a]]", &[Positional(run(0, 3))], 4),
-    ];
+fn reads(cases: &[(Entry, &str, &[Row], usize)]) {
     let mut reader = Reader::new();
     for (entry, text, rows, consumed) in cases {
         let line = line(text);
-        let list = line.lent().read(entry).unwrap_or_else(|refusal| panic!("{text}: {refusal}"));
-        assert_eq!(list.rows().collect::<Vec<_>>(), rows, "{entry:?} {text}");
-        assert_eq!(list.consumed(), consumed, "{entry:?} {text}");
-        assert_eq!(reader.read(entry, &line), Ok(list), "{entry:?} {text}");
+        let list = line.lent().read(*entry).unwrap_or_else(|refusal| panic!("{text}: {refusal}"));
+        assert_eq!(list.rows().collect::<Vec<_>>(), *rows, "{entry:?} {text}");
+        assert_eq!(list.consumed(), *consumed, "{entry:?} {text}");
+        assert_eq!(reader.read(*entry, &line), Ok(list), "{entry:?} {text}");
+    }
+}
+
+#[test]
+fn the_bench() {
+    use Quotes::{Double, None};
+    use Row::{EmptyPositional, Option, Role};
+    reads(&[
+        (Entry::Block, "]", &[], 1),
+        (Entry::Block, "a,b]", &[positional(run(0, 1), None), positional(run(2, 1), None)], 4),
+        (Entry::Block, "a,]", &[positional(run(0, 1), None), EmptyPositional], 3),
+        (
+            Entry::Block,
+            "k=\"a,b\",c]",
+            &[named(run(0, 1), run(3, 3), Double), positional(run(8, 1), None)],
+            10,
+        ),
+        (Entry::Block, "\",'\",']", &[positional(run(1, 2), Double), positional(run(5, 1), None)], 7),
+        (Entry::Block, "a==b=c]", &[named(run(0, 1), run(2, 3), None)], 6),
+        (Entry::Block, ".x#y%]", &[Role(run(1, 1)), id(run(3, 1), None), noted(4, Diagnostic::InvalidId)], 6),
+        (Entry::Block, "#%o]", &[id(run(0, 0), None), Option(run(2, 1))], 4),
+        (Entry::Block, "a...b.c]", &[positional(run(0, 1), None), noted(1, Diagnostic::InvalidList)], 6),
+        (Entry::Block, "id=\"\"]", &[noted(0, Diagnostic::EmptyId)], 5),
+        (Entry::Block, "#a#b]", &[id(run(1, 1), None), noted(2, Diagnostic::SecondId)], 5),
+        (Entry::Block, "subs=q]", &[plain(run(0, 1), run(2, 1), None)], 4),
+        (Entry::BlockMacro, ".x]", &[positional(run(0, 2), None)], 3),
+        (Entry::InlineMacro, "a\\]b]c", &[positional(run(0, 4), None)], 5),
+        (Entry::LinkMacro, "a b]", &[positional(run(0, 3), None)], 4),
+        (Entry::LinkMacro, "a=b]", &[named(run(0, 1), run(2, 1), None)], 4),
+        (Entry::LinkMacro, "[a]]", &[positional(run(0, 3), None)], 4),
+    ]);
+}
+
+#[test]
+fn quotes_that_were_taken_off() {
+    use Quotes::{Double, None, Single};
+    use Row::{Option, Role};
+    reads(&[
+        (Entry::Block, "id=\"x\"]", &[id(run(3, 1), Double)], 6),
+        (Entry::Block, "id='x']", &[id(run(3, 1), Single)], 6),
+        (Entry::Block, "#x]", &[id(run(1, 1), None)], 3),
+        (Entry::Block, "role=\"a\"]", &[Role(run(3, 1))], 6),
+        (Entry::Block, "opts='a,b']", &[Option(run(3, 1)), Option(run(5, 1))], 8),
+        (Entry::Block, "subs='q']", &[plain(run(0, 1), run(3, 1), Single)], 6),
+        (Entry::Block, "\"\"]", &[positional(Run::default(), Double)], 3),
+        (Entry::Block, "k=\"\"]", &[named(run(0, 1), Run::default(), Double)], 5),
+        (Entry::Block, "\"a]", &[positional(run(0, 2), None)], 3),
+        (Entry::Block, "\"a']", &[positional(run(0, 3), None)], 4),
+        (Entry::Block, "\"{x}a\"]", &[positional(run(2, 1), Double)], 5),
+        (Entry::Block, "\"a\".b]", &[positional(run(0, 5), None)], 6),
+        (Entry::Block, "a.b]", &[positional(run(0, 1), None), Role(run(2, 1))], 4),
+        (Entry::BlockMacro, "'a']", &[positional(run(1, 1), Single)], 4),
+        (Entry::InlineMacro, "'a']", &[positional(run(1, 1), Single)], 4),
+        (Entry::LinkMacro, "\"text\"]", &[positional(run(1, 1), Double)], 4),
+        (
+            Entry::LinkMacro,
+            "\"a\",k='v']",
+            &[positional(run(1, 1), Double), named(run(4, 1), run(7, 1), Single)],
+            10,
+        ),
+    ]);
+    for (number, (quotes, mark)) in [(None, ""), (Double, "\""), (Single, "'")].into_iter().enumerate() {
+        assert_eq!((quotes.number(), quotes.mark(), quotes.to_string().as_str()), (number, mark, mark));
     }
 }
 
@@ -118,7 +172,9 @@ fn a_report_line() {
     assert_eq!(list.options().map(|text| text.to_string()).collect::<Vec<_>>(), ["print"]);
     assert_eq!(list.named().count(), 3);
     assert_eq!(list.diagnostics().count(), 0);
-    assert_eq!(list.rows().next_back(), Some(Row::Id(list.id().unwrap().run())));
+    assert_eq!(list.rows().next_back(), Some(id(list.id().unwrap().run(), Quotes::None)));
+    let quoted = list.rows().filter(|row| matches!(row, Row::Named { quotes: Quotes::Double, .. }));
+    assert_eq!(quoted.count(), 1);
 }
 
 #[test]

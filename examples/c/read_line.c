@@ -1,14 +1,15 @@
 /*
  * Reads the attribute line
  *     [summary#lung,edition="8, draft",width=1450]
- * of a report sheet and prints its rows in words. A line is lent without its opening bracket.
+ * of a report sheet and prints its rows in words, each text in the quotes in which the author had
+ * it. A line is lent without its opening bracket.
  */
 #include <stdio.h>
 #include <string.h>
 
 #include "telfjost.h"
 
-enum { TOKENS = 17, ROW = 5, ATTR_REF = 3 };
+enum { TOKENS = 17, ROW = 6, ATTR_REF = 3 };
 
 static const char *const words[TOKENS] = {"summary", "#", "lung", ",", "edition", "=", "\"", "8",   ",",
                                           " ",       "draft", "\"", ",", "width",   "=", "1450", "]"};
@@ -26,6 +27,15 @@ static void print_run(const uint32_t *run)
             printf("%.*s", (int)pairs[2 * place + 1], (const char *)text + pairs[2 * place]);
 }
 
+/* The last number of a row: which quotes were taken off its run, 0 none, 1 double, 2 single. */
+static void print_quoted(const uint32_t *run, uint32_t mark)
+{
+    static const char *const quotes[] = {"", "\"", "'"};
+    printf("%s", quotes[mark]);
+    print_run(run);
+    printf("%s", quotes[mark]);
+}
+
 static void print_row(const uint32_t *row)
 {
     static const char *const tags[] = {"", "positional, empty", "positional ", "named ", "id ", "role ", "option "};
@@ -34,11 +44,14 @@ static void print_row(const uint32_t *row)
     if (row[0] == 7) {
         printf("%s, at token %u", says[row[2]], (unsigned)row[1]);
     } else {
-        printf("%s", row[0] == 8 ? tags[3] : tags[row[0]]);
-        print_run(row + 1);
-        if (row[0] == 3 || row[0] == 8) {
+        bool named = row[0] == 3 || row[0] == 8;
+        printf("%s", named ? tags[3] : tags[row[0]]);
+        if (named) {
+            print_run(row + 1);
             printf(" = ");
-            print_run(row + 3);
+            print_quoted(row + 3, row[ROW - 1]);
+        } else {
+            print_quoted(row + 1, row[ROW - 1]);
         }
     }
     printf("\n");
@@ -55,7 +68,7 @@ int main(void)
         bytes += length;
     }
 
-    uint32_t rows[ROW * TOKENS]; /* five numbers for each token are always enough */
+    uint32_t rows[ROW * TOKENS]; /* six numbers for each token are always enough */
     telfjost_list answer =
         telfjost_block_attr_list(kinds, TOKENS, text, bytes, pairs, 2 * TOKENS, rows, ROW * TOKENS);
     if (answer.refusal != 0) {

@@ -1,5 +1,5 @@
-//! Reads one attribute line of a report sheet and prints its rows in words, each text in the quotes
-//! in which the author had it.
+//! Reads one attribute line of a report sheet and prints its rows in words, each text but a role's
+//! and an option's in the quotes in which the author had it.
 
 use telfjost::{Kind, Line, Refusal, Row};
 

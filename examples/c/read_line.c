@@ -1,8 +1,8 @@
 /*
  * Reads the attribute line
  *     [summary#lung,edition="8, draft",width=1450]
- * of a report sheet and prints its rows in words, each text in the quotes in which the author had
- * it. A line is lent without its opening bracket.
+ * of a report sheet and prints its rows in words, each text but a role's and an option's in the
+ * quotes in which the author had it. A line is lent without its opening bracket.
  */
 #include <stdio.h>
 #include <string.h>

@@ -37,7 +37,14 @@ pub fn row_width() -> usize
 pub fn has_room(room: usize, tokens: usize) -> bool
     ensures { result ≡ room_for tokens room }
 {
-    tokens <= room / WIDTH
+    let mut left = room;
+    for _ in 0..WIDTH {
+        if left < tokens {
+            return false;
+        }
+        left -= tokens;
+    }
+    true
 }
 
 impl Row {

@@ -18,6 +18,7 @@ mod parser;
 mod reading;
 mod record;
 mod rng;
+mod room;
 mod rust_side;
 mod self_test;
 mod sources;
@@ -240,6 +241,7 @@ fn main() -> ExitCode {
         let made = record::recorded(&Library::listed());
         if let Err(e) = std::fs::write(record::STDIN, made.calls)
             .and_then(|()| std::fs::write(record::STDOUT, made.answers))
+            .and_then(|()| std::fs::write(room::STDOUT, room::answers()))
         {
             println!("cannot write the recorded answers: {e}");
             return ExitCode::FAILURE;

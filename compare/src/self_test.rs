@@ -9,6 +9,7 @@ use crate::lines::{LineBuf, SIGNIFICANT};
 use crate::model::{self, line_refusal, room_refusal};
 use crate::parser::SourceLocation;
 use crate::record;
+use crate::room;
 use crate::rust_side::{
     self, ENTRIES, Entry, KINDS, MARKED, MODES, MOVES, Mode, Move, NO_SUBS, NORMAL, Outcome, Row, STARTS, Set,
 };
@@ -72,7 +73,7 @@ pub fn run() -> bool {
     t.failed == 0
 }
 
-/// The files of the program `replay` are those that `record` makes.
+/// The files of the programs `replay` and `room_extremes` are those that `record` makes.
 fn recorded_answers(t: &mut Tests) {
     let made = record::recorded(&Library::listed());
     let same = |path, text: &str| std::fs::read(path).is_ok_and(|bytes| bytes == text.as_bytes());
@@ -80,6 +81,10 @@ fn recorded_answers(t: &mut Tests) {
     t.holds(
         "the recorded answers are current (compare/record makes them)",
         same(record::STDOUT, &made.answers),
+    );
+    t.holds(
+        "the answers on the room at the extremes are current (compare/record makes them)",
+        same(room::STDOUT, &room::answers()),
     );
 }
 

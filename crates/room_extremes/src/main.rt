@@ -5,8 +5,8 @@
 use row::has_room;
 use std::io;
 
-// Tokens, then the numbers of the buffer. From 3074457345618258603 tokens on six for each are more than a number can say: there the buffers in the middle
-// are those for which a product that wraps, or the double of the tokens that wraps, would say yes, and one under them.
+// Tokens, then the numbers of the buffer. From 3074457345618258603 tokens on six for each are more than a number can say. There the buffers in the middle
+// are what a product comes to that wraps, and one under it; of 2^63 tokens that is 0, as is their double.
 const CASES: [(usize, usize); 36] = [
     (0, 0),
     (0, 18446744073709551615),

@@ -1,12 +1,13 @@
 // Prints what the room check answers at the extremes: of lines of no token up to the most that a number can say, and of buffers of no number, of one under
-// six for each token, of six for each, and of the most. What it must print, the file `stdout`, is not of its own making: `compare/record` works it out in 128 bits.
+// six for each token, of six for each, and of the most. What it must print, the file `stdout`, is not of its own making: `compare/record` works out cases and
+// answers in 128 bits.
 #![tactic(auto)]
 
 use row::has_room;
 use std::io;
 
 // Tokens, then the numbers of the buffer. From 3074457345618258603 tokens on six for each are more than a number can say. There the buffers in the middle
-// are what a product comes to that wraps, and one under it; of 2^63 tokens that is 0, as is their double.
+// are what a product comes to that wraps, and one under it; of 2^63 tokens that is 0, to which their double wraps as well.
 const CASES: [(usize, usize); 36] = [
     (0, 0),
     (0, 18446744073709551615),

@@ -33,8 +33,9 @@ pub fn row_width() -> usize
     WIDTH
 }
 
-// Whether a buffer of `room` numbers has room for a row for each token: the tokens are taken off it once for each number of a row. Nothing is multiplied,
-// divided or shifted, which takes the processor of the scanner's console long before each line (`tools/room` looks), and no sum is made that could wrap.
+// Whether a buffer of `room` numbers has room for a row for each token: the tokens are taken off it once for each number of a row. Nothing is multiplied or
+// divided, which is the slowest thing in a short line on the processor of the scanner's console, and nothing is shifted in place of that (`tools/room` looks). No
+// token counts are added up, so nothing can wrap.
 pub fn has_room(room: usize, tokens: usize) -> bool
     ensures { result ≡ room_for tokens room }
 {

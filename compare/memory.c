@@ -142,6 +142,11 @@ static unsigned long long read_calls, refused_calls;
 static void look_at_rows(const struct line *l, const uint32_t *rows, telfjost_list a) {
     if (a.rows > l->tokens || a.consumed == 0 || a.consumed > l->tokens)
         wrong("more rows or tokens than the line has");
+    size_t commas = 0;
+    for (size_t i = 0; i < l->tokens; i++)
+        commas += l->kinds[i] == COMMA;
+    if (a.rejoined > commas)
+        wrong("more commas taken back than the line has");
     for (size_t r = 0; r < a.rows; r++) {
         const uint32_t *row = rows + ROW * r;
         if (row[0] < 1 || row[0] > 8)
@@ -172,8 +177,8 @@ static void one_list(void) {
                                          rows, room);
     if (a.refusal > 8)
         wrong("no such refusal");
-    if (a.refusal != 0 && (a.rows != 0 || a.consumed != 0))
-        wrong("a refusal with rows");
+    if (a.refusal != 0 && (a.rows != 0 || a.consumed != 0 || a.rejoined != 0))
+        wrong("a refusal with rows, tokens or commas");
     size_t written = ROW * a.rows;
     if (before != NULL && room > written &&
         memcmp(rows + written, before + written, (room - written) * sizeof *rows) != 0)

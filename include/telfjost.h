@@ -61,9 +61,10 @@ telfjost_bool telfjost_is_block_attr_list(const uint8_t *kinds, size_t kinds_len
 
 /* What a list was read as. */
 typedef struct {
-    size_t refusal;  /* 0, or 1 to 8; then the other two are 0 and `rows` was not written to */
+    size_t refusal;  /* 0, or 1 to 8; then the other three are 0 and `rows` was not written to */
     size_t rows;     /* rows written, six numbers each, from the start of `rows` */
     size_t consumed; /* tokens consumed, the closing bracket among them */
+    size_t rejoined; /* commas taken back */
 } telfjost_list;
 
 /*
@@ -94,6 +95,12 @@ typedef struct {
  * the list's own); 4 More than one id attribute.
  *
  * A line whose first token is CloseBracket gives no rows, 1 consumed, by every entry.
+ *
+ * Commas taken back: the second quote of a kind joins what stands after its first, the commas too,
+ * and each comma that this takes out of the division counts once. With the commas that divide they
+ * make exactly the commas counted: those before the first CloseBracket and before the last token.
+ * In `name=O'Brien,edition=3,second=O'Neill` 2 are taken back, and the edition is part of the name:
+ * an editor can warn. 0 where the first token is CloseBracket, and for a link read as text.
  */
 
 /* A block attribute line. Shorthand (.role #id %option) is read. The last token closes; any

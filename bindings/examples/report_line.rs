@@ -42,5 +42,6 @@ fn main() -> Result<(), Refusal> {
         }
     }
     println!("{} tokens consumed", list.consumed());
+    println!("commas taken back: {}", list.rejoined());
     Ok(())
 }

@@ -164,18 +164,48 @@ impl Row {
     }
 }
 
-/// What a line was read as: its rows in reading order, and how many tokens it took.
+/// What a line was read as: its rows in reading order, how many tokens it took, and how many commas
+/// were taken back.
 #[derive(Debug, Clone, PartialEq, Eq)]
 pub struct List<'l> {
     line: Lent<'l>,
     numbers: Cow<'l, [u32]>,
     consumed: usize,
+    rejoined: usize,
 }
 
 impl<'l> List<'l> {
     /// Tokens consumed, the closing bracket among them.
     pub fn consumed(&self) -> usize {
         self.consumed
+    }
+
+    /// Commas taken back: counted ones that a second quote of a pair joined to what stands before them,
+    /// so that they do not divide. With the dividing commas they are all the commas counted. It is 0
+    /// where the first token closes the list, and for a link that is read as text.
+    ///
+    /// Where an author meant a comma to divide, as after a quote that was forgotten, this is the one
+    /// sign of it: the line is read, and an attribute has become part of its neighbour.
+    ///
+    /// ```
+    /// use telfjost::{Kind, Line};
+    ///
+    /// // name=O'Brien,edition=3,second=O'Neill]
+    /// let line: Line = [
+    ///     (Kind::Word, "name"), (Kind::EqualSigns, "="), (Kind::Word, "O"), (Kind::SingleQuote, "'"),
+    ///     (Kind::Word, "Brien"), (Kind::Comma, ","), (Kind::Word, "edition"), (Kind::EqualSigns, "="),
+    ///     (Kind::Digits, "3"), (Kind::Comma, ","), (Kind::Word, "second"), (Kind::EqualSigns, "="),
+    ///     (Kind::Word, "O"), (Kind::SingleQuote, "'"), (Kind::Word, "Neill"), (Kind::CloseBracket, "]"),
+    /// ]
+    /// .into_iter()
+    /// .collect();
+    /// let list = line.lent().block_attr_list()?;
+    /// assert_eq!(list.rejoined(), 2);
+    /// assert!(list.values("edition").next().is_none());
+    /// # Ok::<(), telfjost::Refusal>(())
+    /// ```
+    pub fn rejoined(&self) -> usize {
+        self.rejoined
     }
 
     /// The line that was read.
@@ -299,7 +329,12 @@ impl Reader {
         let answer = sys::read(entry, line, &mut self.rows);
         Refusal::check(answer.refusal)?;
         let numbers = &self.rows[..ROW * answer.rows];
-        Ok(List { line, numbers: Cow::Borrowed(numbers), consumed: answer.consumed })
+        Ok(List {
+            line,
+            numbers: Cow::Borrowed(numbers),
+            consumed: answer.consumed,
+            rejoined: answer.rejoined,
+        })
     }
 }
 
@@ -311,7 +346,12 @@ impl<'l> Lent<'l> {
         let answer = sys::read(entry, *self, &mut rows);
         Refusal::check(answer.refusal)?;
         rows.truncate(ROW * answer.rows);
-        Ok(List { line: *self, numbers: Cow::Owned(rows), consumed: answer.consumed })
+        Ok(List {
+            line: *self,
+            numbers: Cow::Owned(rows),
+            consumed: answer.consumed,
+            rejoined: answer.rejoined,
+        })
     }
 
     /// The line as a block attribute list.

@@ -138,6 +138,7 @@ pub struct ListAnswer {
     pub refusal: usize,
     pub rows: usize,
     pub consumed: usize,
+    pub rejoined: usize,
 }
 
 macro_rules! lists {

@@ -127,6 +127,34 @@ fn quotes_that_were_taken_off() {
 }
 
 #[test]
+fn commas_taken_back() {
+    let cases = [
+        (Entry::Block, "]", 0),
+        (Entry::Block, "a,b]", 0),
+        (Entry::Block, "k=\"a,b\",c]", 1),
+        // Both commas are inside a pair, and the pairs cross: one is taken back.
+        (Entry::Block, "\",'\",']", 1),
+        (Entry::InlineMacro, "',\"',\"]", 1),
+        // None is counted.
+        (Entry::Block, "a]b,c]", 0),
+        (Entry::Block, "name=O'Brien,edition=3,second=O'Neill]", 2),
+        // A quote is forgotten behind Glucose.
+        (Entry::Block, "title=\"Glucose,edition=3,note=\"see below\",width=1450]", 2),
+        (Entry::BlockMacro, "',a',\",b,\"]", 3),
+        // A link's list, a link's text, and a list that its first token closes.
+        (Entry::LinkMacro, "\"a,b\",k=v]", 1),
+        (Entry::LinkMacro, "\"a,b\"]", 0),
+        (Entry::LinkMacro, "]\"a,b\"", 0),
+    ];
+    let mut reader = Reader::new();
+    for (entry, text, rejoined) in cases {
+        let line = line(text);
+        assert_eq!(line.lent().read(entry).map(|list| list.rejoined()), Ok(rejoined), "{entry:?} {text}");
+        assert_eq!(reader.read(entry, &line).map(|list| list.rejoined()), Ok(rejoined), "{entry:?} {text}");
+    }
+}
+
+#[test]
 fn no_closing_bracket() {
     for entry in [Entry::Block, Entry::BlockMacro, Entry::InlineMacro, Entry::LinkMacro] {
         assert_eq!(line("a").lent().read(entry), Err(Refusal::NoClosingBracket), "{entry:?}");

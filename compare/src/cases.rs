@@ -2,7 +2,9 @@
 //! every run from the same seed.
 
 use crate::check::{Checked, SUBS_NAMES, Worker};
-use crate::lines::{HALVES, LineBuf, SIGNIFICANT, Tok, any_kinds_line, random_line, spoil_utf8};
+use crate::lines::{
+    HALVES, LineBuf, SIGNIFICANT, Tok, any_kinds_line, commas_and_quotes, random_line, spoil_utf8,
+};
 use crate::model::{self, MOST_BYTES, MOST_TOKENS};
 use crate::rng::Rng;
 use crate::rust_side::{ENTRIES, Entry, MODES, MOVES, Mode, NO_SUBS, NORMAL, ROW, Set};
@@ -276,6 +278,22 @@ fn random_lists(seed: u64, share: usize) -> Vec<Piece> {
                 let for_rust = spoil_utf8(&mut line, &mut rng);
                 for entry in ENTRIES {
                     worker.list_for(entry, line.lent(), &for_rust, room(len, turn), turn)?;
+                }
+            }
+            Ok(())
+        }));
+    }
+    for part in 0..share as u64 {
+        let seed = seed.wrapping_add(7 + (part << 8));
+        pieces.push(piece("random lines of commas and quotes", move |worker| {
+            let mut rng = Rng::new(seed);
+            let mut line = LineBuf::default();
+            for turn in 0..5_000 {
+                let longest = if rng.one_in(20) { 600 } else { 40 };
+                let len = 1 + rng.below(longest);
+                commas_and_quotes(&mut line, &mut rng, len);
+                for entry in ENTRIES {
+                    worker.list(entry, line.lent(), room(len, turn), turn)?;
                 }
             }
             Ok(())

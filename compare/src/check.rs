@@ -6,7 +6,7 @@ use std::fmt::Write as _;
 use crate::library::{Bool, Library, List, SetAnswer};
 use crate::model;
 use crate::numbers::{MARKED, Row, Unmarked};
-use crate::reading::Reading;
+use crate::reading::{Reading, commas_inside};
 use crate::rust_side::{self, Entry, KINDS, Lent, Mode, Move, Outcome, ROW, STARTS, Set};
 
 /// Numbers before and behind the row buffer that no call may touch.
@@ -21,6 +21,10 @@ pub struct Tally {
     /// Rows of the tags of `MARKED`, by their marks.
     pub marks: [[u64; 3]; MARKED.len()],
     pub diagnostics: [u64; 5],
+    /// Lines read, by how many commas were taken back: none, one, two, more.
+    pub taken_back: [u64; 4],
+    /// Lines read in which another number of commas stands inside complete pairs than was taken back.
+    pub crossing: u64,
     /// Moves by what they did: see `MOVED`.
     pub moves: [u64; 6],
     pub yes: u64,
@@ -51,6 +55,7 @@ impl Tally {
             (&mut self.tags[..], &other.tags[..]),
             (self.marks.as_flattened_mut(), other.marks.as_flattened()),
             (&mut self.diagnostics[..], &other.diagnostics[..]),
+            (&mut self.taken_back[..], &other.taken_back[..]),
             (&mut self.moves[..], &other.moves[..]),
         ];
         for (mine, theirs) in pairs {
@@ -58,6 +63,7 @@ impl Tally {
                 *a += b;
             }
         }
+        self.crossing += other.crossing;
         self.yes += other.yes;
         self.other_closing += other.other_closing;
     }
@@ -67,7 +73,8 @@ impl Tally {
 pub type Checked = Result<(), Box<String>>;
 
 /// What is due of a line that passed checks 1 to 6: the Rust's answer, and the harness's own
-/// reading, which must have the Rust's tokens consumed and the Rust's five numbers of each row.
+/// reading, which must have the Rust's tokens consumed, its pops of the stack of delimiting, and its
+/// five numbers of each row.
 #[derive(Default)]
 pub struct Due {
     /// The Rust's rows, also where this reader is to refuse the line.
@@ -81,21 +88,35 @@ impl Due {
         let outcome = rust_side::read(entry, Lent { text: rust_text, ..line }, &mut self.rust);
         let consumed = self.own.read(entry, line);
         let same = match outcome {
-            Outcome::Read(of_rust) => consumed == Some(of_rust) && self.same_rows(),
-            Outcome::OtherClosing(_) | Outcome::Panicked => consumed.is_none() && self.rows().is_empty(),
+            Outcome::Read { consumed: of_rust, rejoined } => {
+                consumed == Some(of_rust) && self.rejoined() == rejoined && self.same_rows()
+            }
+            Outcome::OtherClosing(_) | Outcome::Panicked => {
+                consumed.is_none() && self.rejoined() == 0 && self.rows().is_empty()
+            }
         };
         if same {
             return Ok(outcome);
         }
         let mut words = describe_line(&format!("{entry:?}"), line);
         let _ = writeln!(words, "the Rust: {outcome:?}, rows {:?}", self.rust);
-        let _ = writeln!(words, "the harness's own reading: consumed {consumed:?}, rows {:?}", self.rows());
+        let _ = writeln!(
+            words,
+            "the harness's own reading: consumed {consumed:?}, taken back {}, rows {:?}",
+            self.rejoined(),
+            self.rows()
+        );
         Err(Box::new(words))
     }
 
     fn same_rows(&self) -> bool {
         self.rust.len() == self.rows().len()
             && self.rust.iter().zip(self.rows()).all(|(rust, own)| own.starts_with(rust))
+    }
+
+    /// The commas taken back that are due, 0 where the line is refused.
+    pub fn rejoined(&self) -> usize {
+        self.own.rejoined
     }
 
     /// The rows due, none where the line is refused.
@@ -135,17 +156,19 @@ impl<'l> Worker<'l> {
         rust_text: &[u8],
         numbers: usize,
     ) -> Result<List, Box<String>> {
-        let refused = |refusal| List { refusal, rows: 0, consumed: 0 };
+        let refused = |refusal| List { refusal, rows: 0, consumed: 0, rejoined: 0 };
         let early = match model::line_refusal(line.kinds, line.text, line.pairs) {
             0 => model::room_refusal(line.kinds.len(), numbers),
             refusal => refusal,
         };
         if early != 0 {
-            self.due.own.rows.clear();
+            self.due.own.clear();
             return Ok(refused(early));
         }
         Ok(match self.due.read(entry, line, rust_text)? {
-            Outcome::Read(consumed) => List { refusal: 0, rows: self.rows().len(), consumed },
+            Outcome::Read { consumed, rejoined } => {
+                List { refusal: 0, rows: self.rows().len(), consumed, rejoined }
+            }
             Outcome::OtherClosing(_) => {
                 self.tally.other_closing += 1;
                 refused(8)
@@ -193,6 +216,11 @@ impl<'l> Worker<'l> {
             if let Some(at) = MARKED.iter().position(|marked| marked == tag) {
                 self.tally.marks[at][*mark as usize] += 1;
             }
+        }
+        if expected.refusal == 0 {
+            let rejoined = expected.rejoined;
+            self.tally.taken_back[rejoined.min(3)] += 1;
+            self.tally.crossing += u64::from(rejoined != 0 && rejoined != commas_inside(line));
         }
         if given == expected && self.buffer_is_right(salt) {
             return Ok(());

@@ -9,6 +9,7 @@ pub struct List {
     pub refusal: usize,
     pub rows: usize,
     pub consumed: usize,
+    pub rejoined: usize,
 }
 
 #[derive(Debug, Clone, Copy, PartialEq, Eq)]

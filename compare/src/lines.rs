@@ -239,6 +239,31 @@ pub fn random_line(line: &mut LineBuf, rng: &mut Rng, len: usize) {
     }
 }
 
+/// A line of words, commas and quotes of both kinds, so that many pairs cross; most end in a
+/// CloseBracket.
+pub fn commas_and_quotes(line: &mut LineBuf, rng: &mut Rng, len: usize) {
+    const TOKENS: [(TokenKind, &str); 12] = [
+        (Word, "a"),
+        (Word, "b"),
+        (EqualSigns, "="),
+        (Comma, ","),
+        (Comma, ","),
+        (Comma, ","),
+        (Comma, ","),
+        (Comma, ","),
+        (DoubleQuote, "\""),
+        (DoubleQuote, "\""),
+        (SingleQuote, "'"),
+        (SingleQuote, "'"),
+    ];
+    line.clear();
+    for place in 0..len {
+        let closes = place + 1 == len && !rng.one_in(10);
+        let (kind, text) = if closes { (CloseBracket, "]") } else { *rng.pick(&TOKENS) };
+        line.push(kind, text.as_bytes());
+    }
+}
+
 /// A line over all kinds, each with any of a list of texts.
 pub fn any_kinds_line(line: &mut LineBuf, rng: &mut Rng, len: usize) {
     line.clear();

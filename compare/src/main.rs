@@ -110,6 +110,7 @@ fn report(tally: &Tally, seconds: f64) {
         ("answers by refusal (0 is none)", &tally.refusals[..]),
         ("rows by tag", &tally.tags[..]),
         ("diagnostics by number", &tally.diagnostics[..]),
+        ("lists and links read, by commas taken back (3: or more)", &tally.taken_back[..]),
     ];
     for (what, counts) in by_number {
         if counts.iter().any(|n| *n > 0) {
@@ -130,6 +131,7 @@ fn report(tally: &Tally, seconds: f64) {
         println!("moves by what they did: {}", did.join("; "));
     }
     let counted = [
+        ("lines of which another number of commas stands inside quotes than was taken back", tally.crossing),
         ("is_block_attr_list said yes", tally.yes),
         ("link text closed by another token, which the Rust takes and 8 is due", tally.other_closing),
     ];
@@ -164,6 +166,11 @@ fn telling(library: &Library, tally: &Tally) -> bool {
     if lists {
         missing.extend((1..9).filter(|tag| tally.tags[*tag] < 1000).map(|tag| format!("tag {tag}")));
         missing.extend((1..5).filter(|d| tally.diagnostics[*d] < 1000).map(|d| format!("diagnostic {d}")));
+        missing
+            .extend((0..4).filter(|n| tally.taken_back[*n] < 1000).map(|n| format!("{n} commas taken back")));
+        if tally.crossing < 1000 {
+            missing.push("commas taken back where pairs cross".into());
+        }
         for (tag, counts) in MARKED.iter().zip(tally.marks) {
             let few = (0..3).filter(|mark| counts[*mark] < 1000);
             missing.extend(few.map(|mark| format!("tag {tag} with the mark {mark}")));

@@ -1,6 +1,7 @@
-//! A line read from the words of document 01 and, for the quote mark, of document 02 (Slip 2), with
-//! no eye on either program: whole rows of six numbers. The Rust gives the first five numbers of
-//! each row, and every case holds this reading to them. The sixth, which the Rust does not have, is
+//! A line read from the words of document 01 and, for the quote mark and the commas taken back, of
+//! document 02 (Slips 2 and 5), with no eye on either program: whole rows of six numbers. The Rust
+//! gives the first five numbers of each row, and every case holds this reading to them, and to how
+//! often the Rust's stack of delimiting is popped. The sixth number, which the Rust does not have, is
 //! due from here alone: it is what `unquote` says that it took off the run of the row.
 
 use crate::numbers::{Entry, KINDS, Lent, Row};
@@ -206,10 +207,11 @@ impl List<'_> {
     }
 }
 
-/// The places of the commas that divide. As the count goes on, there is one stretch more than commas
-/// that are there.
-fn delimit(line: Lent<'_>, commas: &mut Vec<usize>) {
+/// The places of the commas that divide; gives how many were taken back. As the count goes on, there is
+/// one stretch more than commas that are there.
+fn delimit(line: Lent<'_>, commas: &mut Vec<usize>) -> usize {
     commas.clear();
+    let mut rejoined = 0;
     let mut noted: [Option<usize>; 2] = [None; 2];
     for place in 0..line.kinds.len() - 1 {
         let quote = match kind(line, place) {
@@ -224,9 +226,25 @@ fn delimit(line: Lent<'_>, commas: &mut Vec<usize>) {
         };
         match noted[quote].take() {
             None => noted[quote] = Some(commas.len()),
-            Some(stretches) => commas.truncate(stretches),
+            Some(stretches) => rejoined += commas.drain(stretches.min(commas.len())..).count(),
         }
     }
+    rejoined
+}
+
+/// How many counted commas stand inside a complete pair of quotes: where pairs cross, this is not how
+/// many are taken back.
+pub fn commas_inside(line: Lent<'_>) -> usize {
+    let last = line.kinds.len() - 1;
+    let counted = (0..last).find(|place| kind(line, *place) == CloseBracket).unwrap_or(last);
+    let mut inside = vec![false; counted];
+    for quote in [DoubleQuote, SingleQuote] {
+        let quotes: Vec<usize> = (0..counted).filter(|place| kind(line, *place) == quote).collect();
+        for pair in quotes.chunks_exact(2) {
+            inside[pair[0]..pair[1]].fill(true);
+        }
+    }
+    (0..counted).filter(|place| inside[*place] && kind(line, *place) == Comma).count()
 }
 
 /// Where the list closes; None is refusal 8. `from` is behind the last dividing comma.
@@ -266,15 +284,23 @@ fn link_text(line: Lent<'_>) -> Option<usize> {
 #[derive(Default)]
 pub struct Reading {
     pub rows: Vec<Row>,
+    /// The commas taken back: 0 of a line that is refused or no list.
+    pub rejoined: usize,
     kept: Vec<Kept>,
     commas: Vec<usize>,
 }
 
 impl Reading {
-    /// Reads a line that passed checks 1 to 6. Gives the tokens consumed and leaves the rows;
-    /// None, and no rows, is refusal 8.
-    pub fn read(&mut self, entry: Entry, line: Lent<'_>) -> Option<usize> {
+    /// What is due of a line that is refused: no row, and no comma taken back.
+    pub fn clear(&mut self) {
         self.rows.clear();
+        self.rejoined = 0;
+    }
+
+    /// Reads a line that passed checks 1 to 6. Gives the tokens consumed and leaves the rows and the
+    /// commas taken back; None, and none of either, is refusal 8.
+    pub fn read(&mut self, entry: Entry, line: Lent<'_>) -> Option<usize> {
+        self.clear();
         if kind(line, 0) == CloseBracket {
             return Some(1);
         }
@@ -283,8 +309,9 @@ impl Reading {
         {
             return self.text(line, end);
         }
-        delimit(line, &mut self.commas);
+        let rejoined = delimit(line, &mut self.commas);
         let end = closing(entry, line, self.commas.last().map_or(0, |comma| comma + 1))?;
+        self.rejoined = rejoined;
         let mut list = List { line, block: entry == Entry::Block, has_id: false, rows: &mut self.rows };
         let mut from = 0;
         for to in self.commas.iter().copied().chain([end]) {

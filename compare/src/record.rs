@@ -5,7 +5,7 @@
 use std::fmt::Write as _;
 
 use crate::check::{Worker, expected_set};
-use crate::library::Library;
+use crate::library::{Library, List};
 use crate::lines::{LineBuf, any_kinds_line, random_line, spoil_utf8};
 use crate::model::{self, MOST_BYTES, MOST_TOKENS};
 use crate::rng::Rng;
@@ -52,7 +52,8 @@ impl Recorded {
         let mut worker = Worker::new(&none);
         let answer =
             worker.expected(entry, line, rust_text, numbers).unwrap_or_else(|words| panic!("{words}"));
-        let _ = write!(self.answers, "{} {} {}", answer.refusal, answer.rows, answer.consumed);
+        let List { refusal, rows, consumed, rejoined } = answer;
+        let _ = write!(self.answers, "{refusal} {rows} {consumed} {rejoined}");
         for number in worker.rows().as_flattened() {
             let _ = write!(self.answers, " {number}");
         }
@@ -86,7 +87,7 @@ impl Recorded {
 }
 
 /// Lines that the documents speak of.
-const LINES: [&str; 69] = [
+const LINES: [&str; 82] = [
     "]",
     "]a",
     "a]",
@@ -156,6 +157,19 @@ const LINES: [&str; 69] = [
     "k= 'a' ]",
     "\"a\".b]",
     "a.b\"c\"]",
+    "',\"',\"]",
+    "a]b,c]",
+    "name=O'Brien,edition=3,second=O'Neill]",
+    "title=\"Glucose,edition=3,note=\"see below\",width=1450]",
+    "\",\",a",
+    "\"a,b\",k=v]",
+    "\"a,b\"]",
+    "]\",\"",
+    "\",a,',b,',\",c]",
+    "\",',\",',\",',\",']",
+    "',',\",',\",',\",',\"]",
+    "\",',,\",,',\",,',\",,']",
+    "',\",\",',\",',\",,']",
 ];
 
 /// The lines that are recorded: those of the documents, random ones, damaged ones, long ones.

@@ -18,8 +18,9 @@ pub use crate::numbers::*;
 /// What the Rust did with a line.
 #[derive(Debug, Clone, Copy, PartialEq, Eq)]
 pub enum Outcome {
-    /// Read; the tokens consumed. The rows are in the log.
-    Read(usize),
+    /// Read; the tokens consumed, and how often the stack of delimiting was popped. The rows are in
+    /// the log.
+    Read { consumed: usize, rejoined: usize },
     /// Read as a link's text, closed by a token that is no CloseBracket: outside the domain.
     OtherClosing(usize),
     /// It panicked.
@@ -42,7 +43,7 @@ fn line_of<'b>(lent: Lent<'b>, bump: &'b Bump) -> Line<'b> {
 /// Reads a line that passed checks 1 to 6. The rows go to `rows`.
 pub fn read(entry: Entry, lent: Lent<'_>, rows: &mut Vec<Unmarked>) -> Outcome {
     rows.clear();
-    let bump = Bump { log: RefCell::new(std::mem::take(rows)) };
+    let bump = Bump { log: RefCell::new(std::mem::take(rows)), ..Bump::default() };
     let outcome = {
         let mut line = line_of(lent, &bump);
         let consumed = without_a_word(|| {
@@ -61,7 +62,7 @@ pub fn read(entry: Entry, lent: Lent<'_>, rows: &mut Vec<Unmarked>) -> Outcome {
             Some(n) if KINDS[lent.kinds[n - 1] as usize] != TokenKind::CloseBracket => {
                 Outcome::OtherClosing(n)
             }
-            Some(n) => Outcome::Read(n),
+            Some(consumed) => Outcome::Read { consumed, rejoined: bump.popped.get() },
         }
     };
     *rows = bump.log.into_inner();

@@ -1,5 +1,5 @@
 //! The Rust side and the harness's own reading, without the library: the lines on the bench of
-//! document 01, the quote marks of document 02, whitespace-only runs against the real `Deq`, the
+//! document 01, the quote marks and the commas taken back of document 02, whitespace-only runs against the real `Deq`, the
 //! number of held sets, and the harness's own table of refusals. It runs before every comparison.
 
 use crate::check::{Due, expected_move, expected_set};
@@ -8,6 +8,7 @@ use crate::library::Library;
 use crate::lines::{LineBuf, SIGNIFICANT};
 use crate::model::{self, line_refusal, room_refusal};
 use crate::parser::SourceLocation;
+use crate::reading::commas_inside;
 use crate::record;
 use crate::room;
 use crate::rust_side::{
@@ -39,8 +40,19 @@ impl Tests {
     }
 
     fn read(&mut self, entry: Entry, line: &str, rows: &[Row], consumed: usize) {
-        let given = read(entry, &LineBuf::lex(line));
-        self.same(&format!("{entry:?} {line}"), given, Ok((Outcome::Read(consumed), rows.to_vec())));
+        let given = read(entry, &LineBuf::lex(line)).map(|(outcome, rows)| match outcome {
+            Outcome::Read { consumed, .. } => (Ok(consumed), rows),
+            other => (Err(other), rows),
+        });
+        self.same(&format!("{entry:?} {line}"), given, Ok((Ok(consumed), rows.to_vec())));
+    }
+
+    fn taken_back(&mut self, entry: Entry, line: &str, commas: usize) {
+        let given = read(entry, &LineBuf::lex(line)).map(|(outcome, _)| match outcome {
+            Outcome::Read { rejoined, .. } => Some(rejoined),
+            _ => None,
+        });
+        self.same(&format!("commas taken back by {entry:?}, {line}"), given, Ok(Some(commas)));
     }
 
     fn refused(&mut self, what: &str, entry: Entry, line: &str, due: Outcome) {
@@ -65,6 +77,7 @@ pub fn run() -> bool {
     lines_on_the_bench(&mut t);
     more_lines(&mut t);
     quote_marks(&mut t);
+    commas_taken_back(&mut t);
     sets(&mut t);
     refusals(&mut t);
     short_lines(&mut t);
@@ -162,7 +175,11 @@ fn lines_on_the_bench(t: &mut Tests) {
     }
     line.push_all(&[(TokenKind::CloseBracket, "]")]);
     t.same("4,096 tokens", line_refusal(&line.kinds, &line.text, &line.pairs), 0);
-    t.same("4,096 tokens read", read(block, &line), Ok((Outcome::Read(4096), vec![[2, 0, 4095, 0, 0, 0]])));
+    t.same(
+        "4,096 tokens read",
+        read(block, &line),
+        Ok((Outcome::Read { consumed: 4096, rejoined: 0 }, vec![[2, 0, 4095, 0, 0, 0]])),
+    );
     line.push_all(&[(TokenKind::CloseBracket, "]")]);
     t.same("4,097 tokens", line_refusal(&line.kinds, &line.text, &line.pairs), 2);
 }
@@ -192,7 +209,39 @@ fn more_lines(t: &mut Tests) {
     t.refused("closed by a word", link, "a[b]c", Outcome::OtherClosing(5));
     // "Empty" is said of tokens: a zero-length Word is a token.
     let zero = LineBuf::of(&[(TokenKind::Hash, "#"), (TokenKind::Word, ""), (TokenKind::CloseBracket, "]")]);
-    t.same("# and a zero-length Word", read(block, &zero), Ok((Outcome::Read(3), vec![[4, 1, 1, 0, 0, 0]])));
+    t.same(
+        "# and a zero-length Word",
+        read(block, &zero),
+        Ok((Outcome::Read { consumed: 3, rejoined: 0 }, vec![[4, 1, 1, 0, 0, 0]])),
+    );
+}
+
+/// Document 02, Slip 5: one for each stretch that a second quote rejoins.
+fn commas_taken_back(t: &mut Tests) {
+    for entry in [Entry::Block, Entry::BlockMacro, Entry::Inline] {
+        t.taken_back(entry, "]", 0);
+        t.taken_back(entry, "a,b]", 0);
+        t.taken_back(entry, "\"a,b]", 0);
+        t.taken_back(entry, "k=\"a,b\",c]", 1);
+        t.taken_back(entry, "\",,,\",a]", 3);
+        t.taken_back(entry, "\",a,',b,',\",c]", 5);
+        // Both commas are inside a pair; the pairs cross, and one comma divides.
+        t.taken_back(entry, "\",'\",']", 1);
+        t.taken_back(entry, "',\"',\"]", 1);
+        t.taken_back(entry, "name=O'Brien,edition=3,second=O'Neill]", 2);
+        t.taken_back(entry, "title=\"Glucose,edition=3,note=\"see below\",width=1450]", 2);
+    }
+    // Counted commas alone: the count ends at the first bracket.
+    t.taken_back(Entry::Block, "a]b,c]", 0);
+    t.taken_back(Entry::Block, "a]\",\",c]", 0);
+    t.taken_back(Entry::Link, "]\",\"", 0);
+    t.taken_back(Entry::Link, "\"a,b\",k=v]", 1);
+    t.taken_back(Entry::Link, "\"a,b\"]", 0);
+    for line in ["\",\",a", "\",\",',"] {
+        t.refused("refused after delimiting", Entry::Block, line, Outcome::Panicked);
+    }
+    let inside = |line: &str| commas_inside(LineBuf::lex(line).lent());
+    t.same("commas inside a pair", [inside("\",'\",']"), inside("\",\",'a,']"), inside("\",a]")], [2, 2, 0]);
 }
 
 /// Document 02, Slip 2: the sixth number of a row.
@@ -381,7 +430,7 @@ fn short_lines(t: &mut Tests) {
             }
             for entry in ENTRIES {
                 match due.read(entry, line.lent(), &line.text) {
-                    Ok(Outcome::Read(consumed)) => {
+                    Ok(Outcome::Read { consumed, .. }) => {
                         outcomes[0] += 1;
                         let within = |place: u32, count: u32| {
                             (place, count) == (0, 0) || count > 0 && (place + count) < consumed as u32

@@ -3,7 +3,7 @@
 //! `unreached.rs` have the rest.
 
 use std::borrow::Cow;
-use std::cell::RefCell;
+use std::cell::{Cell, RefCell};
 use std::fmt;
 use std::marker::PhantomData;
 use std::ops::{Deref, DerefMut};
@@ -23,6 +23,8 @@ use crate::unreached::missing;
 #[derive(Default)]
 pub struct Bump {
     pub log: RefCell<Vec<Unmarked>>,
+    /// How often the stack of delimiting gave a comma back.
+    pub popped: Cell<usize>,
 }
 
 impl Bump {
@@ -67,6 +69,16 @@ impl<'b, T: 'b> BumpVec<'b, T> {
             record(self.bump, &item);
         }
         self.items.push(item);
+    }
+}
+
+impl BumpVec<'_, usize> {
+    /// The one vector of numbers is the stack of `find_delimiters`, which pops once for each stretch
+    /// that a second quote rejoins: each is counted.
+    pub fn pop(&mut self) -> Option<usize> {
+        let popped = self.items.pop();
+        self.bump.popped.set(self.bump.popped.get() + usize::from(popped.is_some()));
+        popped
     }
 }
 

@@ -51,11 +51,11 @@ pub fn answer(entry: Entry, line: &LineBuf) -> String {
         Outcome::OtherClosing(_) => {
             format!("{words}, closed by a token that is no bracket (this reader: refusal 8)")
         }
-        Outcome::Read(consumed) if rows.is_empty() => format!("no row ({consumed} consumed)"),
-        Outcome::Read(consumed) if consumed < line.kinds.len() => {
+        Outcome::Read { consumed, .. } if rows.is_empty() => format!("no row ({consumed} consumed)"),
+        Outcome::Read { consumed, .. } if consumed < line.kinds.len() => {
             let rest = (line.kinds.len() - consumed) as u32;
             format!("{words}; then {}", shown(line, consumed as u32, rest))
         }
-        Outcome::Read(_) => words,
+        Outcome::Read { .. } => words,
     }
 }

@@ -78,6 +78,7 @@ int main(void)
     for (size_t row = 0; row < answer.rows; row++)
         print_row(rows + ROW * row);
     printf("%zu tokens consumed\n", answer.consumed);
+    printf("commas taken back: %zu\n", answer.rejoined);
 
     /* the same line without its closing bracket: refusal 8, and rows stays as it was */
     answer = telfjost_block_attr_list(kinds, TOKENS - 1, text, bytes, pairs, 2 * (TOKENS - 1), rows, ROW * TOKENS);

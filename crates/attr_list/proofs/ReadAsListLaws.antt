@@ -13,7 +13,7 @@ use Rattle.row.specs.Row.{width, room_for, with_rows}
 use Rattle.delimiters.specs.Divide as divide
 use Rattle.delimiters.specs.Delimit as delimit
 use Rattle.delimiters.proofs.CountLaws.{counts, count-first}
-use Rattle.delimiters.proofs.DivideLaws.{divided, attributes-none}
+use Rattle.delimiters.proofs.DivideLaws.{divided, rejoined-none, attributes-none}
 use Rattle.std.specs.Prelude.{Option, Some, None}
 use Rattle.token.specs.declared.TokenPlace.{TokenPlace}
 use Rattle.closing.specs.declared.LinkMacro.{LinkMacro}
@@ -74,7 +74,7 @@ module _ (most : ℕ) (l : Line) (given : List ℕ) (z : lent_refusal most l (le
   some : 0 < length l.kinds
   some = accepts-some most l (length given) (accepts most l (length given) z)
 
-  list_read : (e : Entry) (end : ℕ) → TakenAsList e l → ClosedAt e l.kinds end → divide.Closes l.kinds end → ReadAsList most e l given (length (list_rows l (is_block e) end)) (end + 1) (with_rows given 0 (list_rows l (is_block e) end))
+  list_read : (e : Entry) (end : ℕ) → TakenAsList e l → ClosedAt e l.kinds end → divide.Closes l.kinds end → ReadAsList most e l given (length (list_rows l (is_block e) end)) (end + 1) (delimit.rejoined l.kinds) (with_rows given 0 (list_rows l (is_block e) end))
   list_read e end t b w =
       let d = divided l.kinds end w in
       let c = counts l.kinds in
@@ -91,6 +91,7 @@ module _ (most : ℕ) (l : Line) (given : List ℕ) (z : lent_refusal most l (le
         before_the_bracket = d.within;
         only_commas = d.only_commas;
         in_order = d.in_order;
+        taken_back = d.taken_back;
         outside = d.outside;
         inside = d.inside;
         attributes = delimit.attributes l.kinds end;
@@ -103,12 +104,13 @@ module _ (most : ℕ) (l : Line) (given : List ℕ) (z : lent_refusal most l (le
       }
 
   -- an empty list
-  empty-read : (e : Entry) → TakenAsList e l → kind_at l.kinds 0 ≡ close_bracket → ReadAsList most e l given 0 1 (with_rows given 0 [])
+  empty-read : (e : Entry) → TakenAsList e l → kind_at l.kinds 0 ≡ close_bracket → ReadAsList most e l given 0 1 0 (with_rows given 0 [])
   unfolding rows_from
   empty-read e t f =
       let none : list_rows l (is_block e) 0 ≡ [] = ap (λ ss. (rows_from l (is_block e) false ss).rows) (attributes-none l.kinds 0 (count-first l.kinds f)) in
-      subst (λ rs. ReadAsList most e l given (length rs) 1 (with_rows given 0 rs)) none
-      (list_read e 0 t (record { among = some; bracket = f; first = λ g. refl; rule = λ g. absurd (g f) }) (record { bracket = f; first = λ g. refl }))
+      subst (λ (b : ℕ). ReadAsList most e l given 0 1 b (with_rows given 0 [])) (rejoined-none l.kinds (count-first l.kinds f))
+      (subst (λ rs. ReadAsList most e l given (length rs) 1 (delimit.rejoined l.kinds) (with_rows given 0 rs)) none
+      (list_read e 0 t (record { among = some; bracket = f; first = λ g. refl; rule = λ g. absurd (g f) }) (record { bracket = f; first = λ g. refl })))
 
   -- ---- what an entry gives
 
@@ -123,7 +125,7 @@ module _ (most : ℕ) (l : Line) (given : List ℕ) (z : lent_refusal most l (le
 
   right-text : (b : Bool) (r : Reading) → (TakenAsList Link l → ⊥) → Right Link (cond b r (refused no_closing_bracket))
   right-text true (refused n) h = tt
-  right-text true (gives rows consumed) h = λ t. absurd (h t)
+  right-text true (gives rows consumed rejoined) h = λ t. absurd (h t)
   right-text false r h = tt
 
   -- a link that begins with no CloseBracket and holds text is not taken as a list
@@ -149,8 +151,8 @@ module _ (most : ℕ) (l : Line) (given : List ℕ) (z : lent_refusal most l (le
   right-closed e = go (ℕ_discrete (kind_at l.kinds 0) close_bracket)
     where
       go : Dec (kind_at l.kinds 0 ≡ close_bracket) → Right e (unless_closed l.kinds (read_by e l))
-      go (yes f) = subst (λ (b : Bool). Right e (cond b (gives [] 1) (read_by e l))) (sym (eq-eqb (kind_at l.kinds 0) close_bracket f)) (λ t. empty-read e t f)
-      go (no f) = subst (λ (b : Bool). Right e (cond b (gives [] 1) (read_by e l))) (sym (ne_eqb (kind_at l.kinds 0) close_bracket f)) (right_by e f)
+      go (yes f) = subst (λ (b : Bool). Right e (cond b (gives [] 1 0) (read_by e l))) (sym (eq-eqb (kind_at l.kinds 0) close_bracket f)) (λ t. empty-read e t f)
+      go (no f) = subst (λ (b : Bool). Right e (cond b (gives [] 1 0) (read_by e l))) (sym (ne_eqb (kind_at l.kinds 0) close_bracket f)) (right_by e f)
 
 -- whatever the entry, the limit, the line and the buffer: where the line is read as a list the record holds of the answer and of the buffer on return
 pub read-as-list : (most : ℕ) (e : Entry) (l : Line) (given : List ℕ) → WhenReadAsList most e l given (answer_of (reading most e l (length given))) (buffer_of given (reading most e l (length given)))
@@ -161,11 +163,11 @@ read-as-list most e l given = go (lent_refusal most l (length given)) refl
     go zero z = right-closed most l given z e
     go (suc n) z = tt
 
--- ---- what a link is read as where it is not taken as a list: text, which is one row
+-- ---- what a link is read as where it is not taken as a list: text, which is one row, with no comma taken back
 
 abbrev OneRow : Reading → Type 0
 OneRow (refused n) = Unit {0}
-OneRow (gives rows consumed) = length rows ≡ 1
+OneRow (gives rows consumed rejoined) = (length rows ≡ 1) × (rejoined ≡ 0)
 
 text-row : (b : Bool) (r : Reading) → OneRow r → OneRow (cond b r (refused no_closing_bracket))
 text-row true r w = w
@@ -176,10 +178,10 @@ not_taken l h = go (ℕ_discrete (kind_at l.kinds 0) close_bracket) (link_macro 
   where
     by : (m : LinkMacro) → link_macro l.kinds l.pairs ≡ m → OneRow (link_to l m)
     by AsList e = absurd (h (inr e))
-    by (AsText end) e = text-row (eqb (kind_at l.kinds end.0) close_bracket) _ refl
+    by (AsText end) e = text-row (eqb (kind_at l.kinds end.0) close_bracket) _ (refl, refl)
 
     go : Dec (kind_at l.kinds 0 ≡ close_bracket) → (m : LinkMacro) → link_macro l.kinds l.pairs ≡ m → OneRow (unless_closed l.kinds (read_by Link l))
     go (yes f) m e = absurd (h (inl f))
     go (no f) m e =
-        subst (λ (b : Bool). OneRow (cond b (gives [] 1) (read_by Link l))) (sym (ne_eqb (kind_at l.kinds 0) close_bracket f))
+        subst (λ (b : Bool). OneRow (cond b (gives [] 1 0) (read_by Link l))) (sym (ne_eqb (kind_at l.kinds 0) close_bracket f))
         (subst (λ (x : LinkMacro). OneRow (link_to l x)) (sym e) (by m e))

@@ -20,7 +20,7 @@ use Rattle.runs.specs.Run.{kept, quote_mark, unquote, unquoted, run_of}
 use Rattle.row.specs.declared.Row.{Row}
 use Rattle.row.specs.Row.{width, numbers, all_numbers, positional, room_for, with_rows, Wrote}
 use Rattle.row.proofs.Laws.{wrote_one}
-use Rattle.delimiters.specs.Delimit.{dividing, parted}
+use Rattle.delimiters.specs.Delimit.{dividing, rejoined, parted}
 use Rattle.delimiters.specs.Divide.{Ascending}
 use Rattle.delimiters.proofs.CountLaws.{bracket-past}
 use Rattle.delimiters.proofs.DivideLaws.{dividing-ascend-to, attributes-some}
@@ -47,7 +47,7 @@ gives_as given r s a left w e = subst (λ (x : Reading). Gives given x a left) e
 pub gives-refused : (given : List ℕ) (n : ℕ) → Gives given (refused n) (Refused n) given
 gives-refused given n = record { answer = refl; buffer = refl }
 
-pub gives_none : (given : List ℕ) (consumed : ℕ) → Gives given (gives [] consumed) (Read 0 consumed) given
+pub gives_none : (given : List ℕ) (consumed : ℕ) → Gives given (gives [] consumed 0) (Read 0 consumed 0) given
 unfolding with_rows all_numbers
 gives_none given consumed = record { answer = refl; buffer = refl }
 
@@ -120,13 +120,13 @@ list-entry Link l h = absurd (h refl)
 
 -- ---- a line whose first token is CloseBracket, and any other
 
-pub closed-gives : (kinds : List ℕ) (r : Reading) (given : List ℕ) → kind_at kinds 0 ≡ close_bracket → (a : Answer) → a ≡ answer_of (gives [] 1) → Gives given (unless_closed kinds r) a given
+pub closed-gives : (kinds : List ℕ) (r : Reading) (given : List ℕ) → kind_at kinds 0 ≡ close_bracket → (a : Answer) → a ≡ answer_of (gives [] 1 0) → Gives given (unless_closed kinds r) a given
 closed-gives kinds r given e a is =
-    gives_as given (gives [] 1) (unless_closed kinds r) a given (record { answer = is; buffer = (gives_none given 1).buffer })
-    (ap (λ (b : Bool). cond b (gives [] 1) r) (sym (eq-eqb (kind_at kinds 0) close_bracket e)))
+    gives_as given (gives [] 1 0) (unless_closed kinds r) a given (record { answer = is; buffer = (gives_none given 1).buffer })
+    (ap (λ (b : Bool). cond b (gives [] 1 0) r) (sym (eq-eqb (kind_at kinds 0) close_bracket e)))
 
 pub open_is : (kinds : List ℕ) (r : Reading) → (kind_at kinds 0 ≡ close_bracket → ⊥) → r ≡ unless_closed kinds r
-open_is kinds r h = ap (λ (b : Bool). cond b (gives [] 1) r) (sym (ne_eqb (kind_at kinds 0) close_bracket h))
+open_is kinds r h = ap (λ (b : Bool). cond b (gives [] 1 0) r) (sym (ne_eqb (kind_at kinds 0) close_bracket h))
 
 pub open_gives : (kinds : List ℕ) (r : Reading) (given : List ℕ) → (kind_at kinds 0 ≡ close_bracket → ⊥) → (a : Answer) (left : List ℕ) → Gives given r a left → Gives given (unless_closed kinds r) a left
 open_gives kinds r given h a left w = gives_as given r (unless_closed kinds r) a left w (open_is kinds r h)
@@ -149,13 +149,14 @@ module _ (kinds : List ℕ) (full : Bool) (c : Option TokenPlace) (told : number
         subst (λ (ps : List ℕ). Ascending 0 ps end.0) (sym same)
         (dividing-ascend-to kinds end.0 (bracket-past kinds end.0 (end_is some end e).bracket))
 
-    pub list-gives : (text pairs : List ℕ) → (kind_at kinds 0 ≡ close_bracket → ⊥) → (block : Bool) (given left : List ℕ) (r : ℕ) → Wrote given 0 (parted_rows (line_of kinds text pairs) block cs end.0) left r → Gives given (list_of (line_of kinds text pairs) full block) (Read r (end.0 + 1)) left
-    list-gives text pairs h block given left r w =
+    pub list-gives : (text pairs : List ℕ) → (kind_at kinds 0 ≡ close_bracket → ⊥) → (block : Bool) (given left : List ℕ) (r b : ℕ) → Wrote given 0 (parted_rows (line_of kinds text pairs) block cs end.0) left r → b ≡ rejoined kinds → Gives given (list_of (line_of kinds text pairs) full block) (Read r (end.0 + 1) b) left
+    list-gives text pairs h block given left r b w back =
         let parts : parted 0 cs end.0 ≡ Rattle.delimiters.specs.Delimit.attributes kinds end.0 = ap (λ (ps : List ℕ). parted 0 ps end.0) same ∙ sym (attributes-some kinds end.0 (bracket-some kinds h end.0 (end_is some end e))) in
         let rows : parted_rows (line_of kinds text pairs) block cs end.0 ≡ list_rows (line_of kinds text pairs) block end.0 = ap (λ ss. (rows_from (line_of kinds text pairs) block false ss).rows) parts in
         let count : r ≡ length (parted_rows (line_of kinds text pairs) block cs end.0) = omega (arith, w.count) in
-        gives_as given (gives (list_rows (line_of kinds text pairs) block end.0) (end.0 + 1)) _ (Read r (end.0 + 1)) left
-        (record { answer = ap (λ (m : ℕ). Read m (end.0 + 1)) (count ∙ ap length rows); buffer = w.buffer ∙ ap (with_rows given 0) rows })
+        let answer : Read r (end.0 + 1) b ≡ Read (length (list_rows (line_of kinds text pairs) block end.0)) (end.0 + 1) (rejoined kinds) = ap (λ (m : ℕ). Read m (end.0 + 1) b) (count ∙ ap length rows) ∙ ap (Read (length (list_rows (line_of kinds text pairs) block end.0)) (end.0 + 1)) back in
+        gives_as given (gives (list_rows (line_of kinds text pairs) block end.0) (end.0 + 1) (rejoined kinds)) _ (Read r (end.0 + 1) b) left
+        (record { answer = answer; buffer = w.buffer ∙ ap (with_rows given 0) rows })
         (ap (list_to (line_of kinds text pairs) block) (sym e ∙ is))
 
 -- ---- a link
@@ -168,11 +169,11 @@ text-among kinds pairs m is some end e =
     omega arith
 
 module _ (kinds text pairs : List ℕ) (end : ℕ) (given : List ℕ) where
-  pub text-gives : kind_at kinds end ≡ close_bracket → (t : Unquoted) (row : Row) (left : List ℕ) → row ≡ positional t.run t.mark → t ≡ unquoted (kept (line_of kinds text pairs) 0 end) → left ≡ sets given (width * 0) (numbers row) → Gives given (text_to (line_of kinds text pairs) end) (Read 1 (end + 1)) left
+  pub text-gives : kind_at kinds end ≡ close_bracket → (t : Unquoted) (row : Row) (left : List ℕ) → row ≡ positional t.run t.mark → t ≡ unquoted (kept (line_of kinds text pairs) 0 end) → left ≡ sets given (width * 0) (numbers row) → Gives given (text_to (line_of kinds text pairs) end) (Read 1 (end + 1) 0) left
   text-gives h t row left e f fills =
       let ts = kept (line_of kinds text pairs) 0 end in
       let only = positional (run_of (unquote ts)) (quote_mark ts) in
       let same : row ≡ only = e ∙ ap (λ (u : Unquoted). positional u.run u.mark) f in
-      gives_as given (gives (only ∷ []) (end + 1)) _ (Read 1 (end + 1)) left
+      gives_as given (gives (only ∷ []) (end + 1) 0) _ (Read 1 (end + 1) 0) left
       (record { answer = refl; buffer = fills ∙ ap (λ (x : Row). sets given (width * 0) (numbers x)) same ∙ (wrote_one given 0 only).buffer })
-      (sym (ap (λ (b : Bool). cond b (gives (only ∷ []) (end + 1)) (refused no_closing_bracket)) (eq-eqb (kind_at kinds end) close_bracket h)))
+      (sym (ap (λ (b : Bool). cond b (gives (only ∷ []) (end + 1) 0) (refused no_closing_bracket)) (eq-eqb (kind_at kinds end) close_bracket h)))

@@ -16,7 +16,7 @@ use Rattle.attr_list.specs.Reading.{Reading, refused, gives, list_to, link_to, r
 
 abbrev pub Numbered : Reading → Type 0
 Numbered (refused n) = 0 < n
-Numbered (gives rows consumed) = Unit {0}
+Numbered (gives rows consumed rejoined) = Unit {0}
 
 either : (b : Bool) (r s : Reading) → Numbered r → Numbered s → Numbered (cond b r s)
 either true r s v w = v
@@ -41,5 +41,5 @@ unfolding reading
 reading-numbered most e l room = go (lent_refusal most l room)
   where
     go : (n : ℕ) → Numbered (unless_refused n (unless_closed l.kinds (read_by e l)))
-    go zero = either (eqb (kind_at l.kinds 0) close_bracket) (gives _ 1) (read_by e l) tt (by-numbered e l)
+    go zero = either (eqb (kind_at l.kinds 0) close_bracket) (gives _ 1 0) (read_by e l) tt (by-numbered e l)
     go (suc n) = omega arith

@@ -5,7 +5,7 @@ use Rattle.token.specs.Kind.{close_bracket, comma, kind_at}
 use Rattle.token.specs.Line.{Line}
 use Rattle.row.specs.declared.Row.{Row}
 use Rattle.row.specs.Row.{width, all_numbers}
-use Rattle.delimiters.specs.Count.{counted, Quote}
+use Rattle.delimiters.specs.Count.{counted, counted_commas, Quote}
 use Rattle.delimiters.specs.Delimit.{dividing, Stretch}
 use Rattle.delimiters.specs.Pairs.{Inside, Uncrossed}
 use Rattle.delimiters.specs.Divide.{times, covers, Ascending, how_many, Follow, Divides}
@@ -38,9 +38,9 @@ pub record ClosedAt (e : Entry) (kinds : List ℕ) (end : ℕ) : Type 0 where
 abbrev pub rows_of_attributes : Entry → Line → List Stretch → List Row
 rows_of_attributes e l attributes = (rows_from l (is_block e) false attributes).rows
 
--- The entry e, which takes at most `most` tokens, read the line l as a list: `rows` rows were answered and `consumed` tokens; the row buffer had the
--- numbers `given` before and has the numbers `left` on return.
-pub record ReadAsList (most : ℕ) (e : Entry) (l : Line) (given : List ℕ) (rows consumed : ℕ) (left : List ℕ) : Type 0 where
+-- The entry e, which takes at most `most` tokens, read the line l as a list: `rows` rows were answered, `consumed` tokens and `rejoined` commas taken
+-- back; the row buffer had the numbers `given` before and has the numbers `left` on return.
+pub record ReadAsList (most : ℕ) (e : Entry) (l : Line) (given : List ℕ) (rows consumed rejoined : ℕ) (left : List ℕ) : Type 0 where
   -- None of 1 to 7 refuses the line and the buffer, and the line is taken as a list.
   pub accepted : lent_refusal most l (length given) ≡ 0
   pub taken : TakenAsList e l
@@ -58,6 +58,8 @@ pub record ReadAsList (most : ℕ) (e : Entry) (l : Line) (given : List ℕ) (ro
   -- The dividing commas are counted commas, listed first to last.
   pub only_commas : (p : ℕ) → Divides l.kinds p → (p < counted l.kinds) × (kind_at l.kinds p ≡ comma)
   pub in_order : Ascending 0 (dividing l.kinds) (counted l.kinds)
+  -- The commas taken back make, with the dividing commas, exactly the commas among the counted tokens, crossing pairs or not.
+  pub taken_back : rejoined + length (dividing l.kinds) ≡ counted_commas l.kinds
   -- A counted comma inside no complete pair divides, crossing pairs or not.
   pub outside : (p : ℕ) → p < counted l.kinds → kind_at l.kinds p ≡ comma → ((q : Quote) → Inside l.kinds q p → ⊥) → Divides l.kinds p
   -- Where no single-quote pair crosses a double-quote pair, a comma inside a complete pair never divides.

@@ -7,6 +7,7 @@ use Rattle.runs.specs.Run.{kept, quote_mark, unquote, run_of}
 use Rattle.row.specs.declared.Row.{Row}
 use Rattle.row.specs.Row.{positional, with_rows, room_for}
 use Rattle.token.specs.declared.TokenPlace.{TokenPlace}
+use Rattle.delimiters.specs.Delimit.{rejoined}
 use Rattle.closing.specs.declared.LinkMacro.{LinkMacro}
 use Rattle.closing.specs.declared.LinkMacro.TheVariants.{AsList, AsText}
 use Rattle.closing.specs.Closing.{closing}
@@ -18,45 +19,49 @@ use Rattle.attr_list.specs.Answer.{Answer, Refused, Read}
 
 -- ---- what a reading gives
 
--- a refusal's number, or rows and how many tokens are consumed
+-- a refusal's number, or rows, how many tokens are consumed and how many commas were taken back
 pub data Reading : Type 0 where
   refused : (number : ℕ) → Reading
-  gives : (rows : List Row) → (consumed : ℕ) → Reading
+  gives : (rows : List Row) → (consumed rejoined : ℕ) → Reading
 
--- "The answer gives rows written and tokens consumed."
+-- "The answer gives rows written and tokens consumed", and after them how many commas were taken back.
 abbrev pub answer_of : Reading → Answer
 answer_of (refused n) = Refused n
-answer_of (gives rows consumed) = Read (length rows) consumed
+answer_of (gives rows consumed rejoined) = Read (length rows) consumed rejoined
 
 -- the buffer on return: the rows stand at its front, "Other row numbers keep what they had"; a refusal leaves them all
 abbrev pub buffer_of : (given : List ℕ) → Reading → List ℕ
 buffer_of given (refused n) = given
-buffer_of given (gives rows consumed) = with_rows given 0 rows
+buffer_of given (gives rows consumed rejoined) = with_rows given 0 rows
 
 -- the answer and the buffer on return are those of a reading
 pub record Gives (given : List ℕ) (r : Reading) (a : Answer) (left : List ℕ) : Type 0 where
   pub answer : a ≡ answer_of r
   pub buffer : left ≡ buffer_of given r
 
--- the numbers of an answer: the refusal, 0 where there is none; rows written and tokens consumed, both 0 where it is refused
+-- the numbers of an answer: the refusal, 0 where there is none; rows written, tokens consumed and commas taken back, all 0 where it is refused
 abbrev pub refusal_of : Answer → ℕ
 refusal_of (Refused n) = n
-refusal_of (Read rows consumed) = 0
+refusal_of (Read rows consumed rejoined) = 0
 
 abbrev pub rows_of : Answer → ℕ
 rows_of (Refused n) = 0
-rows_of (Read rows consumed) = rows
+rows_of (Read rows consumed rejoined) = rows
 
 abbrev pub consumed_of : Answer → ℕ
 consumed_of (Refused n) = 0
-consumed_of (Read rows consumed) = consumed
+consumed_of (Read rows consumed rejoined) = consumed
+
+abbrev pub rejoined_of : Answer → ℕ
+rejoined_of (Refused n) = 0
+rejoined_of (Read rows consumed rejoined) = rejoined
 
 -- ---- a line that 1 to 7 do not refuse, and whose first token is not CloseBracket
 
--- "none is 8"; else the list's rows, and all tokens through the closing bracket are consumed
+-- "none is 8"; else the list's rows, all tokens through the closing bracket consumed, and the commas that delimiting took back
 abbrev pub list_to : Line → (block : Bool) → Option TokenPlace → Reading
 list_to l block None = refused no_closing_bracket
-list_to l block (Some end) = gives (list_rows l block end.0) (end.0 + 1)
+list_to l block (Some end) = gives (list_rows l block end.0) (end.0 + 1) (rejoined l.kinds)
 
 -- a list; `full` says that it is the rest of a full line, `block` that the entry is the block entry
 abbrev pub list_of : Line → (full block : Bool) → Reading
@@ -67,9 +72,9 @@ abbrev pub text_row : List Token → Row
 text_row ts = positional (run_of (unquote ts)) (quote_mark ts)
 
 -- "text, one tag 2 row, AttrRef dropped, unquoted, untrimmed, consumed through the bracket"; "Text whose closing token is not CloseBracket is 8": that
--- token stands at `end`
+-- token stands at `end`. Text is not delimited: a link read as text reports 0 commas taken back.
 abbrev pub text_to : Line → (end : ℕ) → Reading
-text_to l end = cond (eqb (kind_at l.kinds end) close_bracket) (gives (text_row (kept l 0 end) ∷ []) (end + 1)) (refused no_closing_bracket)
+text_to l end = cond (eqb (kind_at l.kinds end) close_bracket) (gives (text_row (kept l 0 end) ∷ []) (end + 1) 0) (refused no_closing_bracket)
 
 -- "list (read as inline) or text"
 abbrev pub link_to : Line → LinkMacro → Reading
@@ -84,9 +89,9 @@ read_by Link l = link_to l (link_macro l.kinds l.pairs)
 
 -- ---- any line
 
--- "First token CloseBracket, links too: no rows, 1 consumed, and no 8"
+-- "First token CloseBracket, links too: no rows, 1 consumed, and no 8"; "A line read as empty by its first CloseBracket reports 0" commas taken back
 abbrev pub unless_closed : (kinds : List ℕ) → Reading → Reading
-unless_closed kinds r = cond (eqb (kind_at kinds 0) close_bracket) (gives [] 1) r
+unless_closed kinds r = cond (eqb (kind_at kinds 0) close_bracket) (gives [] 1 0) r
 
 abbrev pub list_or_none : Line → (full block : Bool) → Reading
 list_or_none l full block = unless_closed l.kinds (list_of l full block)

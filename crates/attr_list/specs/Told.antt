@@ -7,7 +7,7 @@ use Rattle.attr_list.specs.Answer.{Answer, Refused, Read}
 use Rattle.attr_list.specs.Block as block
 
 abbrev pub told : Result code.Read Refusal → Answer
-told (Ok r) = Read r.rows r.consumed
+told (Ok r) = Read r.rows r.consumed r.rejoined
 told (Err r) = Refused (number_of r)
 
 abbrev pub told_line : Result Bool Refusal → block.BlockLine

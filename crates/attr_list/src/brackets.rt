@@ -55,6 +55,7 @@ fn read_list_in(
     Ok(Read {
         rows: written,
         consumed: end.0 + 1,
+        rejoined: delimited.rejoined,
     })
 }
 
@@ -87,7 +88,11 @@ fn read_text(line: Line<'_>, end: TokenPlace, rows: &mut [u32]) -> Result<Read, 
     };
     Row::unquoted(Tag::Positional, text.unquote()).put(rows, 0);
     let consumed = end.0 + 1;
-    Ok(Read { rows: 1, consumed })
+    Ok(Read {
+        rows: 1,
+        consumed,
+        rejoined: 0,
+    })
 }
 
 // Reads what a link's brackets hold.

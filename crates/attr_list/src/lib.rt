@@ -22,11 +22,12 @@ mod block;
 mod brackets;
 pub mod entries;
 
-// What is told of a line that is read: how many rows are written and how many tokens are consumed.
+// What is told of a line that is read: how many rows are written, how many tokens are consumed, and how many commas were taken back.
 #[derive(Clone, Copy, Debug, PartialEq, Eq)]
 pub struct Read {
     pub rows: usize,
     pub consumed: usize,
+    pub rejoined: usize,
 }
 
 // Whether a line is a block attribute list; here its text begins with the opening bracket. Three slices and no `Line`, here and below: whether they are one is
@@ -59,6 +60,7 @@ pub fn parse_attr_list(
         return Ok(Read {
             rows: 0,
             consumed: 1,
+            rejoined: 0,
         });
     }
     let held = Held { line };

@@ -1,17 +1,18 @@
 -- Laws of commas that ascend, and of the stretches that they part.
 use Prim.Native.Nat.{ℕ, zero, suc, ◌+◌, ◌-◌, ◌≤◌, ◌<◌}
 use native.Mathlib.Omega.{arith}
-use Rattle.std.proofs.Common.{add-one, ap, subst, drop-cons}
+use Rattle.std.proofs.Common.{add-one, ap, sym, ◌∙◌, subst, drop-cons}
+use Rattle.std.proofs.lemmas.List.Sums.{count_by_more_yes, count_by_more_no}
 use Rattle.std.proofs.Math.Decide.{dec_lt}
-use Rattle.std.specs.Prelude.{◌≡◌, refl, length, get_or, take, drop}
+use Rattle.std.specs.Prelude.{◌≡◌, refl, eqb, length, get_or, take, drop, count_by}
 use mathlib.Core.List.{List, [], ◌∷◌, ◌++◌}
 use Rattle.std.proofs.Math.ListN.{length-append, length-take}
 use Rattle.std.proofs.Math.Seq.{drop-length}
 use borrow.Author.Tests.{lt-ltb, le-ltb, le-leb, lt-leb, eq-eqb, ne_eqb}
 use Rattle.token.specs.Kind.{comma, kind_at}
-use Rattle.delimiters.specs.Delimit.{start, after, Stretch, parted}
+use Rattle.delimiters.specs.Delimit.{start, at_comma, after, Stretch, parted}
 use Rattle.delimiters.specs.Divide.{times, covers, Ascending}
-use Rattle.delimiters.proofs.StepLaws.{Turn, pushed, kept, cut, turn}
+use Rattle.delimiters.proofs.StepLaws.{Seen, is-comma, is-quote, is-other, seen, comma-apart, quote-fewer, quote-back, after-comma, after-quote, after-other, Turn, pushed, kept, cut, turn}
 
 -- ---- places that ascend
 
@@ -99,13 +100,26 @@ module _ (kinds : List ℕ) where
   unfolding IsComma
   comma-at i j lt = all-at IsComma (after kinds i).commas j (commas-all i) lt
 
--- ---- the time: a line has no more rejoinings in all than tokens
+-- ---- rejoinings: those that the definition counts, and the time: a line has no more of them in all than tokens
 
 module _ (kinds : List ℕ) where
   -- how many stretches are rejoined while the first i tokens are counted
   unfoldable pub rejoinings : ℕ → ℕ
   rejoinings zero = 0
   rejoinings (suc i) = rejoinings i + (length (after kinds i).commas - length (after kinds (suc i)).commas)
+
+  -- what one token adds: each rejoining took back one comma
+  rejoined-more : (i : ℕ) → Seen (kind_at kinds i) → (after kinds (suc i)).rejoined ≡ (after kinds i).rejoined + (length (after kinds i).commas - length (after kinds (suc i)).commas)
+  unfolding at_comma
+  rejoined-more i (is-comma e) = rw (after-comma kinds i e) (omega (arith, length-append (after kinds i).commas (i ∷ [])))
+  rejoined-more i (is-quote q e) = rw (after-quote kinds i q ((after kinds i).noted q) e refl) (quote-back q ((after kinds i).noted q) (after kinds i))
+  rejoined-more i (is-other h f) = rw (after-other kinds i h f) (omega arith)
+
+  -- those that the definition counts are the commas that went
+  pub rejoinings-are : (i : ℕ) → (after kinds i).rejoined ≡ rejoinings i
+  unfolding rejoinings after start
+  rejoinings-are zero = refl
+  rejoinings-are (suc i) = omega (arith, rejoinings-are i, rejoined-more i (seen (kind_at kinds i)))
 
   rejoinings-more : (i : ℕ) → rejoinings i + length (after kinds i).commas ≤ i → Turn kinds i → rejoinings (suc i) + length (after kinds (suc i)).commas ≤ suc i
   unfolding rejoinings
@@ -118,6 +132,33 @@ module _ (kinds : List ℕ) where
   unfolding rejoinings after start
   rejoinings-few zero = omega arith
   rejoinings-few (suc i) = rejoinings-more i (rejoinings-few i) (turn kinds i)
+
+-- ---- of the commas among the tokens counted, each is between stretches still or was taken back
+
+module _ (kinds : List ℕ) where
+  -- how many are among the first i tokens
+  abbrev commas_before : ℕ → ℕ
+  commas_before i = count_by (λ k. eqb k comma) (take i kinds)
+
+  before-comma : (i : ℕ) → i < length kinds → kind_at kinds i ≡ comma → commas_before (suc i) ≡ suc (commas_before i)
+  before-comma i lt e = rw (← add-one i, ← add-one (commas_before i)) (count_by_more_yes (λ k. eqb k comma) kinds i 0 lt (eq-eqb (kind_at kinds i) comma e))
+
+  before-other : (i : ℕ) → i < length kinds → (kind_at kinds i ≡ comma → ⊥) → commas_before (suc i) ≡ commas_before i
+  before-other i lt h = rw (← add-one i) (count_by_more_no (λ k. eqb k comma) kinds i 0 lt (ne_eqb (kind_at kinds i) comma h))
+
+  conserved-more : (i : ℕ) → i < length kinds → Seen (kind_at kinds i) → (after kinds i).rejoined + length (after kinds i).commas ≡ commas_before i → (after kinds (suc i)).rejoined + length (after kinds (suc i)).commas ≡ commas_before (suc i)
+  unfolding at_comma
+  conserved-more i lt (is-comma e) h = rw (after-comma kinds i e, before-comma i lt e) (omega (arith, h, length-append (after kinds i).commas (i ∷ [])))
+  conserved-more i lt (is-quote q e) h =
+      let s = after kinds i in
+      let n = s.noted q in
+      rw (after-quote kinds i q n e refl, before-other i lt (λ f. comma-apart q (sym f ∙ e))) (omega (arith, h, quote-back q n s, quote-fewer q n s))
+  conserved-more i lt (is-other g f) h = rw (after-other kinds i g f, before-other i lt g) h
+
+  pub conserved : (i : ℕ) → i ≤ length kinds → (after kinds i).rejoined + length (after kinds i).commas ≡ commas_before i
+  unfolding after start
+  conserved zero le = refl
+  conserved (suc i) le = conserved-more i (omega arith) (seen (kind_at kinds i)) (conserved i (omega arith))
 
 -- ---- each place is in one of the stretches or is one of the commas that part them
 

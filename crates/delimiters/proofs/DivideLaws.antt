@@ -4,13 +4,13 @@ use Rattle.std.proofs.Common.{arith, sym, ap, subst, ◌∙◌, inl, inr, ne_eqb
 use Rattle.std.proofs.Math.Decide.{dec_lt}
 use Rattle.std.proofs.Math.ListN.{get_or-eq_default}
 use Rattle.token.specs.Kind.{comma, close_bracket, kind_at}
-use Rattle.delimiters.specs.Count.{counted, Quote, double, single}
-use Rattle.delimiters.specs.Delimit.{start, after, dividing, Stretch, parted, attributes}
+use Rattle.delimiters.specs.Count.{counted, counted_commas, Quote, double, single}
+use Rattle.delimiters.specs.Delimit.{start, after, dividing, rejoined, Stretch, parted, attributes}
 use Rattle.delimiters.specs.Pairs.{Pair, OneBetween, Inside, Uncrossed}
 use Rattle.delimiters.specs.Divide.{times, covers, Ascending, how_many, Follow, Divides, Closes, Divided}
-use Rattle.delimiters.proofs.CountLaws.{bracket-past, count-some}
+use Rattle.delimiters.proofs.CountLaws.{counts, bracket-past, count-some}
 use Rattle.delimiters.proofs.StepLaws.{other_quote}
-use Rattle.delimiters.proofs.CommaLaws.{ascending-to, ascending-length, ascending-at, ascends, comma-at, part-once, parted-length}
+use Rattle.delimiters.proofs.CommaLaws.{ascending-to, ascending-length, ascending-at, ascends, comma-at, conserved, part-once, parted-length}
 use Rattle.delimiters.proofs.PairLaws.{stays, gone}
 
 -- ---- the dividing commas: they ascend and are counted; none where nothing is counted
@@ -36,6 +36,21 @@ dividing-comma kinds j lt = comma-at kinds (counted kinds) j lt
 pub dividing-none : (kinds : List ℕ) → counted kinds ≡ 0 → dividing kinds ≡ []
 unfolding dividing after start
 dividing-none kinds e = ap (λ (n : ℕ). (after kinds n).commas) e
+
+-- ---- with the dividing commas, the commas taken back are the commas counted
+
+pub taken_back : (kinds : List ℕ) → rejoined kinds + length (dividing kinds) ≡ counted_commas kinds
+unfolding rejoined dividing counted_commas
+taken_back kinds = conserved kinds (counted kinds) (omega (arith, (counts kinds).within))
+
+-- so they are the one number that makes them up
+pub taken-back-is : (kinds : List ℕ) (n : ℕ) → n + length (dividing kinds) ≡ counted_commas kinds → n ≡ rejoined kinds
+taken-back-is kinds n e = omega (arith, e, taken_back kinds)
+
+-- none where nothing is counted
+pub rejoined-none : (kinds : List ℕ) → counted kinds ≡ 0 → rejoined kinds ≡ 0
+unfolding rejoined after start
+rejoined-none kinds e = ap (λ (n : ℕ). (after kinds n).rejoined) e
 
 -- ---- the attributes
 
@@ -143,6 +158,7 @@ divided kinds end w =
       each_once = λ p lt. each_once kinds end p (closes-some kinds end w (omega arith)) within lt;
       in_order = dividing-ascend kinds;
       only_commas = only_commas kinds;
+      taken_back = taken_back kinds;
       outside = outside-divides kinds;
       inside = inside-joins kinds;
     }

@@ -2,17 +2,20 @@
 use Rattle.std.specs.Prelude.{ℕ, zero, suc, ◌<◌, ◌≡◌, refl, List, [], ◌∷◌, map, length, get_or}
 use Rattle.std.proofs.Common.{arith, inl, inr, lit<}
 use Rattle.token.specs.Kind.{backslash, close_bracket, comma, double_quote, single_quote, word}
-use Rattle.delimiters.specs.Count.{counted, Quote, double, single}
-use Rattle.delimiters.specs.Delimit.{start, at_comma, rejoin, rejoin_times, rejoin_to, note, at_quote, step, after, dividing, Stretch, parted, attributes}
+use Rattle.delimiters.specs.Count.{counted, counted_commas, Quote, double, single}
+use Rattle.delimiters.specs.Delimit.{start, at_comma, rejoin, rejoin_times, rejoin_to, note, at_quote, step, after, dividing, rejoined, Stretch, parted, attributes}
 use Rattle.delimiters.specs.Pairs.{before, Pair, Cross, Inside, Uncrossed}
 use Rattle.delimiters.specs.Divide.{Divides}
 
--- the kinds of a line and the place of its closing bracket; what is counted, the dividing commas and the attributes
+-- the kinds of a line and the place of its closing bracket; how many tokens and how many of their commas are counted, the dividing commas, how many were
+-- taken back, and the attributes
 pub record Case : Type 0 where
   pub kinds : List ℕ
   pub end : ℕ
   pub count : ℕ
+  pub of_commas : ℕ
   pub commas : List ℕ
+  pub back : ℕ
   pub attrs : List Stretch
 
 abbrev pub to : ℕ → ℕ → Stretch
@@ -25,29 +28,33 @@ crossing = double_quote ∷ comma ∷ single_quote ∷ double_quote ∷ comma �
 abbrev pub cases : List Case
 cases =
     -- `,]`: a comma alone divides two attributes of no tokens
-    record { kinds = comma ∷ close_bracket ∷ []; end = 1; count = 1; commas = 0 ∷ []; attrs = to 0 0 ∷ to 1 1 ∷ [] }
+    record { kinds = comma ∷ close_bracket ∷ []; end = 1; count = 1; of_commas = 1; commas = 0 ∷ []; back = 0; attrs = to 0 0 ∷ to 1 1 ∷ [] }
     -- `a,b,c]`
-    ∷ record { kinds = word ∷ comma ∷ word ∷ comma ∷ word ∷ close_bracket ∷ []; end = 5; count = 5; commas = 1 ∷ 3 ∷ []; attrs = to 0 1 ∷ to 2 3 ∷ to 4 5 ∷ [] }
-    -- `a]b,c]`: the count ends at the first bracket
-    ∷ record { kinds = word ∷ close_bracket ∷ word ∷ comma ∷ word ∷ close_bracket ∷ []; end = 5; count = 1; commas = []; attrs = to 0 5 ∷ [] }
+    ∷ record { kinds = word ∷ comma ∷ word ∷ comma ∷ word ∷ close_bracket ∷ []; end = 5; count = 5; of_commas = 2; commas = 1 ∷ 3 ∷ []; back = 0; attrs = to 0 1 ∷ to 2 3 ∷ to 4 5 ∷ [] }
+    -- `a]b,c]`: the count ends at the first bracket, and no comma is counted
+    ∷ record { kinds = word ∷ close_bracket ∷ word ∷ comma ∷ word ∷ close_bracket ∷ []; end = 5; count = 1; of_commas = 0; commas = []; back = 0; attrs = to 0 5 ∷ [] }
     -- `"a,'b",c,'d]`: the pairs cross; the comma at 2 and the one at 8 are rejoined, the one at 6 is not
     ∷ record {
       kinds = double_quote ∷ word ∷ comma ∷ single_quote ∷ word ∷ double_quote ∷ comma ∷ word ∷ comma ∷ single_quote ∷ word ∷ close_bracket ∷ [];
       end = 11;
       count = 11;
+      of_commas = 3;
       commas = 6 ∷ [];
+      back = 2;
       attrs = to 0 6 ∷ to 7 11 ∷ [];
     }
     -- `a\],b]`: the count ends at an escaped bracket too, and the comma after it does not divide
-    ∷ record { kinds = word ∷ backslash ∷ close_bracket ∷ comma ∷ word ∷ close_bracket ∷ []; end = 5; count = 2; commas = []; attrs = to 0 5 ∷ [] }
+    ∷ record { kinds = word ∷ backslash ∷ close_bracket ∷ comma ∷ word ∷ close_bracket ∷ []; end = 5; count = 2; of_commas = 0; commas = []; back = 0; attrs = to 0 5 ∷ [] }
     -- `a",b]`: an odd last quote makes no pair
-    ∷ record { kinds = word ∷ double_quote ∷ comma ∷ word ∷ close_bracket ∷ []; end = 4; count = 4; commas = 2 ∷ []; attrs = to 0 2 ∷ to 3 4 ∷ [] }
+    ∷ record { kinds = word ∷ double_quote ∷ comma ∷ word ∷ close_bracket ∷ []; end = 4; count = 4; of_commas = 1; commas = 2 ∷ []; back = 0; attrs = to 0 2 ∷ to 3 4 ∷ [] }
     -- `"a,b","c,d",e]`: first with second, third with fourth
     ∷ record {
       kinds = double_quote ∷ word ∷ comma ∷ word ∷ double_quote ∷ comma ∷ double_quote ∷ word ∷ comma ∷ word ∷ double_quote ∷ comma ∷ word ∷ close_bracket ∷ [];
       end = 13;
       count = 13;
+      of_commas = 4;
       commas = 5 ∷ 11 ∷ [];
+      back = 2;
       attrs = to 0 5 ∷ to 6 11 ∷ to 12 13 ∷ [];
     }
     -- `",a,',b,',",c]`: a second quote rejoins all that came since its first, and only that
@@ -55,9 +62,15 @@ cases =
       kinds = double_quote ∷ comma ∷ word ∷ comma ∷ single_quote ∷ comma ∷ word ∷ comma ∷ single_quote ∷ comma ∷ double_quote ∷ comma ∷ word ∷ close_bracket ∷ [];
       end = 13;
       count = 13;
+      of_commas = 6;
       commas = 11 ∷ [];
+      back = 5;
       attrs = to 0 11 ∷ to 12 13 ∷ [];
     }
+    -- `",'",']`: both commas are inside a pair, and one is taken back
+    ∷ record { kinds = crossing; end = 6; count = 6; of_commas = 2; commas = 4 ∷ []; back = 1; attrs = to 0 4 ∷ to 5 6 ∷ [] }
+    -- `',"',"]`: so with the kinds exchanged
+    ∷ record { kinds = single_quote ∷ comma ∷ double_quote ∷ single_quote ∷ comma ∷ double_quote ∷ close_bracket ∷ []; end = 6; count = 6; of_commas = 2; commas = 4 ∷ []; back = 1; attrs = to 0 4 ∷ to 5 6 ∷ [] }
     ∷ []
 
 -- a case with what the definitions give
@@ -67,12 +80,14 @@ computed c =
       kinds = c.kinds;
       end = c.end;
       count = counted c.kinds;
+      of_commas = counted_commas c.kinds;
       commas = dividing c.kinds;
+      back = rejoined c.kinds;
       attrs = attributes c.kinds c.end;
     }
 
 pub cases-hold : map computed cases ≡ cases
-unfolding counted start at_comma rejoin rejoin_times rejoin_to note at_quote step after dividing parted attributes
+unfolding counted counted_commas start at_comma rejoin rejoin_times rejoin_to note at_quote step after dividing rejoined parted attributes
 cases-hold = refl
 
 -- ---- `",'",']`: its pairs cross, and the comma at 4 is inside one and divides, while the comma at 1 is inside the other and does not

@@ -1,9 +1,10 @@
--- Laws of the stretches as the count goes: what one token does to the commas between them and to what is noted.
-use Prim.Native.Nat.{ℕ, zero, suc, ◌+◌, ◌-◌, ◌*◌, ◌<◌}
+-- Laws of the stretches as the count goes: what one token does to the commas between them, to how many were rejoined and to what is noted.
+use Prim.Native.Nat.{ℕ, zero, suc, ◌+◌, ◌-◌, ◌*◌, ◌≤◌, ◌<◌}
 use Rattle.std.proofs.Common.{arith, sym, ◌∙◌, inl, inr, take_all, take-take, length-take-le, eqb-true, ne_eqb, eq-eqb, lt-ltb, le-ltb}
 use Rattle.std.proofs.Math.Decide.{dec_lt}
 use Rattle.std.specs.Prelude.{Bool, true, false, cond, ◌≡◌, List, [], ◌∷◌, ◌++◌, ◌⊎◌, eqb, ltb, length, take}
 use Rattle.std.proofs.Math.Path.{refl, ap}
+use Rattle.std.proofs.Math.ListN.{length-take}
 use Rattle.std.proofs.lemmas.Bool.{eqb-false}
 use Rattle.token.specs.Kind.{comma, double_quote, single_quote, kind_at}
 use Rattle.delimiters.specs.Count.{Quote, double, single, quote_kind}
@@ -25,9 +26,9 @@ unfolding rejoin_times rejoin
 noted-times zero s = refl
 noted-times (suc n) s = noted-times n (rejoin s)
 
-pub rejoined : (d : ℕ) (s : State) → (rejoin_to (suc d) s).commas ≡ take d s.commas
+pub rejoined-commas : (d : ℕ) (s : State) → (rejoin_to (suc d) s).commas ≡ take d s.commas
 unfolding rejoin_to
-rejoined d s = rejoined-times (stretches s - suc d) s ∙ go (dec_lt d (length s.commas))
+rejoined-commas d s = rejoined-times (stretches s - suc d) s ∙ go (dec_lt d (length s.commas))
   where
     go : Dec (d < length s.commas) → take (length s.commas - (stretches s - suc d)) s.commas ≡ take d s.commas
     go (yes h) = let e : length s.commas - (stretches s - suc d) ≡ d = omega arith in rw e
@@ -36,6 +37,16 @@ rejoined d s = rejoined-times (stretches s - suc d) s ∙ go (dec_lt d (length s
 pub rejoined-noted : (n : ℕ) (s : State) → (rejoin_to n s).noted ≡ s.noted
 unfolding rejoin_to
 rejoined-noted n s = noted-times (stretches s - n) s
+
+-- one for each stretch more than n
+counted-times : (n : ℕ) (s : State) → (rejoin_times n s).rejoined ≡ s.rejoined + n
+unfolding rejoin_times rejoin
+counted-times zero s = omega arith
+counted-times (suc n) s = omega (arith, counted-times n (rejoin s))
+
+pub rejoined-count : (n : ℕ) (s : State) → (rejoin_to n s).rejoined ≡ s.rejoined + (stretches s - n)
+unfolding rejoin_to
+rejoined-count n s = counted-times (stretches s - n) s
 
 one_fewer : (n : ℕ) (s : State) → 0 < n → n < stretches s → stretches s - n ≡ suc (stretches (rejoin s) - n)
 unfolding rejoin
@@ -49,6 +60,18 @@ rejoin-while n s some = go (dec_lt n (stretches s))
     go : Dec (n < stretches s) → rejoin_times (stretches s - n) s ≡ cond (ltb n (stretches s)) (rejoin_times (stretches (rejoin s) - n) (rejoin s)) s
     go (yes h) = rw (lt-ltb n (stretches s) h, one_fewer n s some h)
     go (no h) = let e : stretches s - n ≡ 0 = omega arith in rw (le-ltb n (stretches s) (omega arith), e)
+
+-- ---- what a quote does to the commas: it takes some back or none, and each of these is a rejoining
+
+pub quote-fewer : (q : Quote) (n : ℕ) (s : State) → length (at_quote q n s).commas ≤ length s.commas
+unfolding at_quote note
+quote-fewer q zero s = omega arith
+quote-fewer q (suc d) s = omega (arith, ap length (rejoined-commas d s), length-take d s.commas)
+
+pub quote-back : (q : Quote) (n : ℕ) (s : State) → (at_quote q n s).rejoined ≡ s.rejoined + (length s.commas - length (at_quote q n s).commas)
+unfolding at_quote note
+quote-back q zero s = omega arith
+quote-back q (suc d) s = omega (arith, rejoined-count (suc d) s, ap length (rejoined-commas d s), length-take d s.commas)
 
 -- ---- the two kinds of quote
 
@@ -130,7 +153,7 @@ module _ (kinds : List ℕ) where
   -- a second quote leaves as many commas as its first noted, less one
   pub after-second : (i : ℕ) (q : Quote) (d : ℕ) → kind_at kinds i ≡ quote_kind q → (after kinds i).noted q ≡ suc d → (after kinds (suc i)).commas ≡ take d (after kinds i).commas
   unfolding at_quote note
-  after-second i q d e f = ap (λ (s : State). s.commas) (after-quote i q (suc d) e f) ∙ rejoined d (after kinds i)
+  after-second i q d e f = ap (λ (s : State). s.commas) (after-quote i q (suc d) e f) ∙ rejoined-commas d (after kinds i)
 
   -- what it does to the commas
   pub data Turn (i : ℕ) : Type 0 where

@@ -1,4 +1,4 @@
--- Delimiting (`find_delimiters`): the counted commas that divide a line, and the attributes between them.
+-- Delimiting (`find_delimiters`): the counted commas that divide a line, how many were taken back, and the attributes between those that divide.
 use Rattle.std.specs.Prelude.{ℕ, zero, suc, ◌+◌, ◌-◌, cond, List, [], ◌∷◌, ◌++◌, eqb, length, take}
 use Rattle.token.specs.Kind.{comma, double_quote, single_quote, kind_at}
 use Rattle.delimiters.specs.Count.{counted, Quote, double, single}
@@ -11,6 +11,8 @@ pub record State : Type 0 where
   pub commas : List ℕ
   -- how many stretches the first quote of each kind noted; 0 while none of the kind waits for its second
   pub noted : Quote → ℕ
+  -- how many stretches were rejoined
+  pub rejoined : ℕ
 
 -- how many stretches there are: one more than commas between them
 abbrev pub stretches : State → ℕ
@@ -18,15 +20,15 @@ stretches s = suc (length s.commas)
 
 -- "The first token counted begins a stretch": no comma yet, and no quote.
 unfoldable pub start : State
-start = record { commas = []; noted = λ q. 0 }
+start = record { commas = []; noted = λ q. 0; rejoined = 0 }
 
 -- "a comma ends one and begins the next, which counts though still empty": the comma at place i.
 unfoldable pub at_comma : ℕ → State → State
-at_comma i s = record { commas = s.commas ++ (i ∷ []); noted = s.noted }
+at_comma i s = record { commas = s.commas ++ (i ∷ []); noted = s.noted; rejoined = s.rejoined }
 
--- "rejoins the last stretch, with the comma between, to the one before it": the last comma goes.
+-- "rejoins the last stretch, with the comma between, to the one before it": the last comma goes, and one stretch more is rejoined.
 unfoldable pub rejoin : State → State
-rejoin s = record { commas = take (length s.commas - 1) s.commas; noted = s.noted }
+rejoin s = record { commas = take (length s.commas - 1) s.commas; noted = s.noted; rejoined = suc s.rejoined }
 
 unfoldable pub rejoin_times : ℕ → State → State
 rejoin_times zero s = s
@@ -44,7 +46,7 @@ put single n f double = f double
 put single n f single = n
 
 unfoldable pub note : Quote → ℕ → State → State
-note q n s = record { commas = s.commas; noted = put q n s.noted }
+note q n s = record { commas = s.commas; noted = put q n s.noted; rejoined = s.rejoined }
 
 -- "A first quote of a kind notes how many stretches there are; the second rejoins .. while more than that remain": a quote, by what is noted of its
 -- kind. Nothing is noted before a first one, nor after a second.
@@ -68,6 +70,10 @@ after kinds (suc i) = step i (kind_at kinds i) (after kinds i)
 -- "A counted comma divides when the stretches at its two sides are still apart as the count ends": the places of these, first to last.
 unfoldable pub dividing : List ℕ → List ℕ
 dividing kinds = (after kinds (counted kinds)).commas
+
+-- "how many commas were rejoined, tied to the rule's own steps: one for each stretch that a second quote rejoins"
+unfoldable pub rejoined : List ℕ → ℕ
+rejoined kinds = (after kinds (counted kinds)).rejoined
 
 -- ---- the attributes
 

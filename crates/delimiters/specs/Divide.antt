@@ -1,8 +1,8 @@
 -- What holds of every line: nothing is lost or read twice, and no comma divides or joins that should not.
 use Rattle.std.specs.Prelude.{ℕ, zero, suc, ◌+◌, ◌≤◌, ◌<◌, cond, ◌&&◌, ◌≡◌, List, [], ◌∷◌, eqb, ltb, leb, length, get_or}
 use Rattle.token.specs.Kind.{comma, close_bracket, kind_at}
-use Rattle.delimiters.specs.Count.{counted, Quote}
-use Rattle.delimiters.specs.Delimit.{dividing, Stretch, attributes}
+use Rattle.delimiters.specs.Count.{counted, counted_commas, Quote}
+use Rattle.delimiters.specs.Delimit.{dividing, rejoined, Stretch, attributes}
 use Rattle.delimiters.specs.Pairs.{Inside, Uncrossed}
 
 -- how many of the commas stand at place p
@@ -56,6 +56,8 @@ pub record Divided (kinds : List ℕ) (end : ℕ) : Type 0 where
   pub in_order : Ascending 0 (dividing kinds) (counted kinds)
   -- a dividing comma is a counted comma
   pub only_commas : (p : ℕ) → Divides kinds p → (p < counted kinds) × (kind_at kinds p ≡ comma)
+  -- with the dividing commas, the commas taken back are exactly the commas counted, crossing pairs or not
+  pub taken_back : rejoined kinds + length (dividing kinds) ≡ counted_commas kinds
   -- a counted comma inside no complete pair divides, crossing pairs or not
   pub outside : (p : ℕ) → p < counted kinds → kind_at kinds p ≡ comma → ((q : Quote) → Inside kinds q p → ⊥) → Divides kinds p
   -- where no single-quote pair crosses a double-quote pair, one inside a complete pair never divides

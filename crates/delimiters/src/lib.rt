@@ -7,12 +7,14 @@ ghost use Rattle.delimiters.specs.Outcome.{Outcome};
 
 use token::kind::TokenKind;
 
-// How many tokens are counted, and how many of their commas divide. A count and no slice of the buffer: the contract says what each number of the
-// buffer is as the call returns, and a buffer that the answer still borrows has no value then (tried).
+// How many tokens are counted, how many of their commas divide, and how many were taken back: stretches that a second quote rejoined. A count of commas
+// and no slice of the buffer: the contract says what each number of the buffer is as the call returns, and a buffer that the answer still borrows has no
+// value then (tried).
 #[derive(Clone, Copy, Debug, PartialEq, Eq)]
 pub struct Delimited {
     pub counted: usize,
     pub commas: usize,
+    pub rejoined: usize,
 }
 
 // What a quote does, by what is noted of its kind: the first notes how many stretches there are; the second takes the note, and answers how many
@@ -37,6 +39,7 @@ pub fn find_delimiters(kinds: &[u8], commas: &mut [u16]) -> Delimited
     ensures { Outcome kinds.now commas.old result commas.new }
 {
     let mut stretches: usize = 1;
+    let mut rejoined: usize = 0;
     // What the first quote of each kind noted, while it waits for its second.
     let mut double: Option<usize> = None;
     let mut single: Option<usize> = None;
@@ -64,10 +67,12 @@ pub fn find_delimiters(kinds: &[u8], commas: &mut [u16]) -> Delimited
         // as is the labelled loop around it: document 01 names this form.
         while remain < stretches {
             stretches -= 1;
+            rejoined += 1;
         }
     }
     Delimited {
         counted,
         commas: stretches - 1,
+        rejoined,
     }
 }

@@ -57,7 +57,7 @@ fn tell_refusal(rt: &impl Print, refusal: Refusal) -> io::Result<()> {
     println!(rt; "  refused, {}: {refusal}", usize::from(refusal))
 }
 
-// Prints what a reading finds in a line: its division, its rows, and how many tokens it consumed.
+// Prints what a reading finds in a line: its division, its rows, how many tokens it consumed, and how many commas it took back, if any.
 fn tell_reading(
     rt: &(impl Print + AllocGlobal),
     list: List<'_>,
@@ -73,8 +73,13 @@ fn tell_reading(
         shown.write_row(rt, *row)?;
     }
     match reading.consumed {
-        1 => println!(rt; "  1 token consumed"),
-        tokens => println!(rt; "  {tokens} tokens consumed"),
+        1 => println!(rt; "  1 token consumed")?,
+        tokens => println!(rt; "  {tokens} tokens consumed")?,
+    }
+    match reading.rejoined {
+        0 => Ok(()),
+        1 => println!(rt; "  1 comma taken back"),
+        commas => println!(rt; "  {commas} commas taken back"),
     }
 }
 
@@ -88,8 +93,8 @@ fn draw_division(
     let line = list.line;
     let bracket = line.tokens.get(consumed.saturating_sub(1));
     let closing = bracket.map_or(0, |token| token.bytes().start);
-    let commas = list.commas(alloc)?;
-    let parts = parts_of(alloc, &line.tokens, &commas, closing)?;
+    let division = list.division(alloc)?;
+    let parts = parts_of(alloc, &line.tokens, &division, closing)?;
     rt.write_all(b"  ")?;
     write_line(rt, &signs(alloc, &line.text, &parts)?)
 }

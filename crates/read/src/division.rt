@@ -1,9 +1,11 @@
 // How a line that is read is divided, drawn under its text.
 ghost use Rattle.std.specs.Prelude.{◌<◌, length};
 
+use crate::reader::Division;
 use crate::tokens::Token;
 use std::alloc::{AllocError, Global};
 use std::ops::Range;
+use token::kind::TokenKind;
 
 // What a byte of the text belongs to.
 #[derive(Clone, Copy, PartialEq, Eq)]
@@ -11,6 +13,7 @@ pub(crate) enum Part {
     Nothing,
     Attribute,
     Comma,
+    TakenBack,
 }
 
 // Marks the bytes at some places.
@@ -20,16 +23,26 @@ fn mark(parts: &mut [Part], places: Range<usize>, part: Part) {
     }
 }
 
+// Marks the counted commas that do not divide: each was taken back, and is in an attribute.
+fn mark_taken_back(parts: &mut [Part], tokens: &[Token], counted: usize) {
+    for token in tokens.iter().take(counted) {
+        let bytes = token.bytes();
+        if token.kind == TokenKind::Comma && is_attribute(parts, bytes.start) {
+            mark(parts, bytes, Part::TakenBack);
+        }
+    }
+}
+
 // What each byte belongs to of a text that ends where the closing bracket begins, at byte `closing`.
 pub(crate) fn parts_of(
     alloc: Global,
     tokens: &[Token],
-    commas: &[u16],
+    division: &Division,
     closing: usize,
 ) -> Result<Vec<Part>, AllocError> {
     let mut parts = vec![in alloc; Part::Nothing; closing]?;
     let mut start = 0;
-    for place in commas {
+    for place in &division.dividing {
         if let Some(comma) = tokens.get(*place as usize) {
             let Range {
                 start: from,
@@ -41,6 +54,7 @@ pub(crate) fn parts_of(
         }
     }
     mark(&mut parts, start..closing, Part::Attribute);
+    mark_taken_back(&mut parts, tokens, division.counted);
     Ok(parts)
 }
 
@@ -51,16 +65,18 @@ fn goes_on(b: u8) -> bool {
 
 // Whether the byte at a place is of an attribute.
 fn is_attribute(parts: &[Part], at: usize) -> bool {
-    parts.get(at) == Some(&Part::Attribute)
+    matches!(parts.get(at), Some(Part::Attribute | Part::TakenBack))
 }
 
-// The sign under a character from `at` up to `next`: of an attribute a bracket where it begins and where it ends.
+// The sign under a character from `at` up to `next`: of an attribute a bracket where it begins and where it ends, and a sign of its own under a comma
+// that was taken back.
 fn sign(parts: &[Part], at: usize, next: usize) -> u8
     requires { at < length parts.now }
 {
     match parts[at] {
         Part::Nothing => b' ',
         Part::Comma => b'^',
+        Part::TakenBack => b'~',
         Part::Attribute => {
             let before = at > 0 && is_attribute(parts, at - 1);
             match (before, is_attribute(parts, next)) {

@@ -9,11 +9,20 @@ use row::WIDTH;
 use std::alloc::{AllocError, Global};
 use token::line::MOST_TOKENS;
 
-// What a reading finds: its rows, each as the numbers that the library writes to the buffer it is lent, and how many tokens it consumed.
+// What a reading finds: its rows, each as the numbers that the library writes to the buffer it is lent, how many tokens it consumed, and how many commas it
+// took back.
 #[derive(Drop)]
 pub(crate) struct Reading {
     pub(crate) rows: Vec<[u32; WIDTH]>,
     pub(crate) consumed: usize,
+    pub(crate) rejoined: usize,
+}
+
+// How many tokens of a line are counted, and the places of the commas that divide it.
+#[derive(Drop)]
+pub(crate) struct Division {
+    pub(crate) counted: usize,
+    pub(crate) dividing: Vec<u16>,
 }
 
 // The kinds and the pairs of a line, each in an array of its own, as the library takes them.
@@ -61,24 +70,31 @@ impl List<'_> {
             Reading {
                 rows,
                 consumed: read.consumed,
+                rejoined: read.rejoined,
             }
         }))
     }
 
-    // The places of the commas that divide the line: a link's text is not divided.
-    pub(crate) fn commas(self, alloc: Global) -> Result<Vec<u16>, AllocError> {
+    // How the line is divided: a link's text is not.
+    pub(crate) fn division(self, alloc: Global) -> Result<Division, AllocError> {
         let lent = Lent::new(alloc, self.line)?;
         let tokens = lent.kinds.len().min(MOST_TOKENS);
         let kinds = &lent.kinds[..tokens];
         if self.entry == Entry::Link {
             let holds = closing::link_macro(kinds, lent.pairs[..tokens].as_flattened());
             if matches!(holds, LinkMacro::AsText(_)) {
-                return Ok(Vec::new(alloc));
+                return Ok(Division {
+                    counted: 0,
+                    dividing: Vec::new(alloc),
+                });
             }
         }
-        let mut commas = vec![in alloc; 0u16; tokens]?;
-        let found = delimiters::find_delimiters(kinds, &mut commas);
-        commas.truncate(found.commas);
-        Ok(commas)
+        let mut dividing = vec![in alloc; 0u16; tokens]?;
+        let found = delimiters::find_delimiters(kinds, &mut dividing);
+        dividing.truncate(found.commas);
+        Ok(Division {
+            counted: found.counted,
+            dividing,
+        })
     }
 }

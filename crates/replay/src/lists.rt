@@ -23,11 +23,11 @@ fn changed(rows: &[u32]) -> usize {
 fn write_list(rt: &impl Print, answer: Result<Read, Refusal>, rows: &[u32]) -> io::Result<()> {
     let (written, others) = match answer {
         Err(refusal) => {
-            print!(rt; "{} 0 0", usize::from(refusal))?;
+            print!(rt; "{} 0 0 0", usize::from(refusal))?;
             rows.split_at(0)
         }
         Ok(read) => {
-            print!(rt; "0 {} {}", read.rows, read.consumed)?;
+            print!(rt; "0 {} {} {}", read.rows, read.consumed, read.rejoined)?;
             rows.split_at(read.rows.saturating_mul(WIDTH).min(rows.len()))
         }
     };

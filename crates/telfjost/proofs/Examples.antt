@@ -1,4 +1,5 @@
--- Document 01's cases that it marks P, lines and subs texts, in one list, proved by one fact about the definitions; and lines of document 02's quote marks.
+-- Document 01's cases that it marks P, lines and subs texts, in one list, proved by one fact about the definitions; and lines of document 02's quote marks
+-- and commas taken back.
 use Rattle.std.specs.Prelude.{ℕ, ◌+◌, true, ◌≡◌, refl, List, [], ◌∷◌, ◌++◌, map, length}
 use Rattle.substitutions.specs.declared.Mode.{Mode}
 use Rattle.substitutions.specs.declared.Mode.TheVariants.{Port, Sheet}
@@ -6,7 +7,7 @@ use Rattle.substitutions.specs.declared.Substitutions.{Substitutions}
 use Rattle.substitutions.specs.declared.SetAnswer.{SetAnswer}
 use Rattle.substitutions.specs.Moves.{set}
 use Rattle.subs_names.specs.Names.{callouts, verbatim, quotes, macros}
-use Rattle.token.specs.Kind.{attr_ref, close_bracket, comma, double_quote, dots, equal_signs, hash, percent, single_quote, word}
+use Rattle.token.specs.Kind.{attr_ref, close_bracket, comma, digits, double_quote, dots, equal_signs, hash, percent, single_quote, word}
 use Rattle.token.specs.Line.{run}
 use Rattle.token.specs.declared.quotes.QuoteMark.TheVariants as mark
 use Rattle.row.specs.Row.{empty_positional, positional, named, ident, role, option, diagnostic, plain}
@@ -60,7 +61,7 @@ lines =
       kinds = close_bracket ∷ [];
       lexemes = (93 ∷ []) ∷ [];
       room = 6;
-      gives = attr-list-reading.gives [] 1;
+      gives = attr-list-reading.gives [] 1 0;
     }
     -- `a,b]`
     ∷ record {
@@ -68,7 +69,7 @@ lines =
       kinds = word ∷ comma ∷ word ∷ close_bracket ∷ [];
       lexemes = (97 ∷ []) ∷ (44 ∷ []) ∷ (98 ∷ []) ∷ (93 ∷ []) ∷ [];
       room = 24;
-      gives = attr-list-reading.gives (positional (run 0 1) mark.None ∷ positional (run 2 1) mark.None ∷ []) 4;
+      gives = attr-list-reading.gives (positional (run 0 1) mark.None ∷ positional (run 2 1) mark.None ∷ []) 4 0;
     }
     -- `a,]`
     ∷ record {
@@ -76,7 +77,7 @@ lines =
       kinds = word ∷ comma ∷ close_bracket ∷ [];
       lexemes = (97 ∷ []) ∷ (44 ∷ []) ∷ (93 ∷ []) ∷ [];
       room = 18;
-      gives = attr-list-reading.gives (positional (run 0 1) mark.None ∷ empty_positional ∷ []) 3;
+      gives = attr-list-reading.gives (positional (run 0 1) mark.None ∷ empty_positional ∷ []) 3 0;
     }
     -- `k="a,b",c]`
     ∷ record {
@@ -84,7 +85,7 @@ lines =
       kinds = word ∷ equal_signs ∷ double_quote ∷ word ∷ comma ∷ word ∷ double_quote ∷ comma ∷ word ∷ close_bracket ∷ [];
       lexemes = (107 ∷ []) ∷ (61 ∷ []) ∷ (34 ∷ []) ∷ (97 ∷ []) ∷ (44 ∷ []) ∷ (98 ∷ []) ∷ (34 ∷ []) ∷ (44 ∷ []) ∷ (99 ∷ []) ∷ (93 ∷ []) ∷ [];
       room = 60;
-      gives = attr-list-reading.gives (named (run 0 1) (run 3 3) mark.Double ∷ positional (run 8 1) mark.None ∷ []) 10;
+      gives = attr-list-reading.gives (named (run 0 1) (run 3 3) mark.Double ∷ positional (run 8 1) mark.None ∷ []) 10 1;
     }
     -- `",'",']`: the pairs cross, and the comma at 4 divides
     ∷ record {
@@ -92,7 +93,7 @@ lines =
       kinds = double_quote ∷ comma ∷ single_quote ∷ double_quote ∷ comma ∷ single_quote ∷ close_bracket ∷ [];
       lexemes = (34 ∷ []) ∷ (44 ∷ []) ∷ (39 ∷ []) ∷ (34 ∷ []) ∷ (44 ∷ []) ∷ (39 ∷ []) ∷ (93 ∷ []) ∷ [];
       room = 42;
-      gives = attr-list-reading.gives (positional (run 1 2) mark.Double ∷ positional (run 5 1) mark.None ∷ []) 7;
+      gives = attr-list-reading.gives (positional (run 1 2) mark.Double ∷ positional (run 5 1) mark.None ∷ []) 7 1;
     }
     -- `a==b=c]`
     ∷ record {
@@ -100,7 +101,7 @@ lines =
       kinds = word ∷ equal_signs ∷ word ∷ equal_signs ∷ word ∷ close_bracket ∷ [];
       lexemes = (97 ∷ []) ∷ (61 ∷ 61 ∷ []) ∷ (98 ∷ []) ∷ (61 ∷ []) ∷ (99 ∷ []) ∷ (93 ∷ []) ∷ [];
       room = 36;
-      gives = attr-list-reading.gives (named (run 0 1) (run 2 3) mark.None ∷ []) 6;
+      gives = attr-list-reading.gives (named (run 0 1) (run 2 3) mark.None ∷ []) 6 0;
     }
     -- `.x#y%]`
     ∷ record {
@@ -108,7 +109,7 @@ lines =
       kinds = dots ∷ word ∷ hash ∷ word ∷ percent ∷ close_bracket ∷ [];
       lexemes = (46 ∷ []) ∷ (120 ∷ []) ∷ (35 ∷ []) ∷ (121 ∷ []) ∷ (37 ∷ []) ∷ (93 ∷ []) ∷ [];
       room = 36;
-      gives = attr-list-reading.gives (role (run 1 1) ∷ ident (run 3 1) mark.None ∷ diagnostic 4 1 ∷ []) 6;
+      gives = attr-list-reading.gives (role (run 1 1) ∷ ident (run 3 1) mark.None ∷ diagnostic 4 1 ∷ []) 6 0;
     }
     -- `#%o]`
     ∷ record {
@@ -116,7 +117,7 @@ lines =
       kinds = hash ∷ percent ∷ word ∷ close_bracket ∷ [];
       lexemes = (35 ∷ []) ∷ (37 ∷ []) ∷ (111 ∷ []) ∷ (93 ∷ []) ∷ [];
       room = 24;
-      gives = attr-list-reading.gives (ident (run 0 0) mark.None ∷ option (run 2 1) ∷ []) 4;
+      gives = attr-list-reading.gives (ident (run 0 0) mark.None ∷ option (run 2 1) ∷ []) 4 0;
     }
     -- `a...b.c]`
     ∷ record {
@@ -124,7 +125,7 @@ lines =
       kinds = word ∷ dots ∷ word ∷ dots ∷ word ∷ close_bracket ∷ [];
       lexemes = (97 ∷ []) ∷ (46 ∷ 46 ∷ 46 ∷ []) ∷ (98 ∷ []) ∷ (46 ∷ []) ∷ (99 ∷ []) ∷ (93 ∷ []) ∷ [];
       room = 36;
-      gives = attr-list-reading.gives (positional (run 0 1) mark.None ∷ diagnostic 1 2 ∷ []) 6;
+      gives = attr-list-reading.gives (positional (run 0 1) mark.None ∷ diagnostic 1 2 ∷ []) 6 0;
     }
     ∷ []
 
@@ -192,7 +193,7 @@ abbrev pub computed : Marked → Marked
 computed m = record { put = m.put; gives = gives m.put }
 
 pub marked-hold : map computed marked ≡ marked
-unfolding text_of pairs_from token-line.token_at token-line.tokens token-line.some_over token-line.misplaced token-line.refusal runs-run.without runs-run.up_to runs-run.onward runs-run.last_of runs-run.front runs-run.kept runs-run.trim_start runs-run.leave runs-run.trim_end runs-run.trim runs-run.quote_mark runs-run.quoted runs-run.inside runs-run.unquote runs-run.run_of runs-names.bytes runs-names.same_bytes delimiters-count.counted delimiters-delimit.start delimiters-delimit.at_comma delimiters-delimit.rejoin delimiters-delimit.rejoin_times delimiters-delimit.rejoin_to delimiters-delimit.note delimiters-delimit.at_quote delimiters-delimit.step delimiters-delimit.after delimiters-delimit.dividing delimiters-delimit.parted delimiters-delimit.attributes closing-closing.last_bracket closing-closing.unescaped closing-closing.next_bracket closing-link.turn closing-link.look_from closing-link.link_macro attr-ir-look.symbol_sight attr-ir-look.sight attr-ir-look.look attr-ir-ir.name_tokens attr-ir-ir.value attr-ir-ir.value_mark attr-ir-ir.value_tokens attr-ir-ir.name_of attr-ir-ir.named_ir attr-ir-ir.key_value_ir attr-ir-ir.ir_as attr-ir-ir.attr_ir put-rows-rows.pieces put-rows-rows.shorthand_read put-rows-rows.later_groups put-rows-rows.groups put-rows-rows.group_rows put-rows-rows.id_read attribute-attribute.cut_read attribute-attribute.ir_read attribute-attribute.reading attribute-attribute.attribute_in attribute-attribute.attribute list-rows-list-rows.rows_from closing-closing.last_begins attr-list-reading.lent_refusal attr-list-reading.reading customize-subs-customizing.meta_answer customize-subs-customizing.meta_refusal customize-subs-customizing.meta_of customize-subs-customizing.start_of customize-subs-customizing.through customize-subs-customizing.stepped customize-subs-customizing.name_of customize-subs-customizing.strategy_of customize-subs-customizing.entered customize-subs-text.modified customize-subs-text.spaced customize-subs-text.back customize-subs-text.blank customize-subs-text.front customize-subs-text.split customize-subs-text.on_first subs-names-names.lookup_of subs-names-names.same substitutions-moves.answer substitutions-moves.refusal_of substitutions-moves.prepend_of substitutions-moves.remove_of substitutions-moves.insert_of substitutions-moves.led substitutions-moves.without substitutions-moves.filled substitutions-held.sound substitutions-held.held substitutions-held.spares substitutions-held.spare substitutions-held.covered substitutions-held.once substitutions-held.packed substitutions-held.empty substitutions-held.small substitutions-held.times substitutions-kinds.sum substitutions-kinds.each substitutions-kinds.flagged
+unfolding text_of pairs_from token-line.token_at token-line.tokens token-line.some_over token-line.misplaced token-line.refusal runs-run.without runs-run.up_to runs-run.onward runs-run.last_of runs-run.front runs-run.kept runs-run.trim_start runs-run.leave runs-run.trim_end runs-run.trim runs-run.quote_mark runs-run.quoted runs-run.inside runs-run.unquote runs-run.run_of runs-names.bytes runs-names.same_bytes delimiters-count.counted delimiters-delimit.start delimiters-delimit.at_comma delimiters-delimit.rejoin delimiters-delimit.rejoin_times delimiters-delimit.rejoin_to delimiters-delimit.note delimiters-delimit.at_quote delimiters-delimit.step delimiters-delimit.after delimiters-delimit.dividing delimiters-delimit.rejoined delimiters-delimit.parted delimiters-delimit.attributes closing-closing.last_bracket closing-closing.unescaped closing-closing.next_bracket closing-link.turn closing-link.look_from closing-link.link_macro attr-ir-look.symbol_sight attr-ir-look.sight attr-ir-look.look attr-ir-ir.name_tokens attr-ir-ir.value attr-ir-ir.value_mark attr-ir-ir.value_tokens attr-ir-ir.name_of attr-ir-ir.named_ir attr-ir-ir.key_value_ir attr-ir-ir.ir_as attr-ir-ir.attr_ir put-rows-rows.pieces put-rows-rows.shorthand_read put-rows-rows.later_groups put-rows-rows.groups put-rows-rows.group_rows put-rows-rows.id_read attribute-attribute.cut_read attribute-attribute.ir_read attribute-attribute.reading attribute-attribute.attribute_in attribute-attribute.attribute list-rows-list-rows.rows_from closing-closing.last_begins attr-list-reading.lent_refusal attr-list-reading.reading customize-subs-customizing.meta_answer customize-subs-customizing.meta_refusal customize-subs-customizing.meta_of customize-subs-customizing.start_of customize-subs-customizing.through customize-subs-customizing.stepped customize-subs-customizing.name_of customize-subs-customizing.strategy_of customize-subs-customizing.entered customize-subs-text.modified customize-subs-text.spaced customize-subs-text.back customize-subs-text.blank customize-subs-text.front customize-subs-text.split customize-subs-text.on_first subs-names-names.lookup_of subs-names-names.same substitutions-moves.answer substitutions-moves.refusal_of substitutions-moves.prepend_of substitutions-moves.remove_of substitutions-moves.insert_of substitutions-moves.led substitutions-moves.without substitutions-moves.filled substitutions-held.sound substitutions-held.held substitutions-held.spares substitutions-held.spare substitutions-held.covered substitutions-held.once substitutions-held.packed substitutions-held.empty substitutions-held.small substitutions-held.times substitutions-kinds.sum substitutions-kinds.each substitutions-kinds.flagged
 marked-hold = refl
 
 -- ---- which quotes were taken off
@@ -206,7 +207,7 @@ quoted_lines =
       kinds = word ∷ equal_signs ∷ double_quote ∷ word ∷ double_quote ∷ close_bracket ∷ [];
       lexemes = (105 ∷ 100 ∷ []) ∷ (61 ∷ []) ∷ (34 ∷ []) ∷ (120 ∷ []) ∷ (34 ∷ []) ∷ (93 ∷ []) ∷ [];
       room = 36;
-      gives = attr-list-reading.gives (ident (run 3 1) mark.Double ∷ []) 6;
+      gives = attr-list-reading.gives (ident (run 3 1) mark.Double ∷ []) 6 0;
     }
     -- `id='x']`
     ∷ record {
@@ -214,7 +215,7 @@ quoted_lines =
       kinds = word ∷ equal_signs ∷ single_quote ∷ word ∷ single_quote ∷ close_bracket ∷ [];
       lexemes = (105 ∷ 100 ∷ []) ∷ (61 ∷ []) ∷ (39 ∷ []) ∷ (120 ∷ []) ∷ (39 ∷ []) ∷ (93 ∷ []) ∷ [];
       room = 36;
-      gives = attr-list-reading.gives (ident (run 3 1) mark.Single ∷ []) 6;
+      gives = attr-list-reading.gives (ident (run 3 1) mark.Single ∷ []) 6 0;
     }
     -- `#x]`: an id of shorthand did not go through unquoting
     ∷ record {
@@ -222,7 +223,7 @@ quoted_lines =
       kinds = hash ∷ word ∷ close_bracket ∷ [];
       lexemes = (35 ∷ []) ∷ (120 ∷ []) ∷ (93 ∷ []) ∷ [];
       room = 18;
-      gives = attr-list-reading.gives (ident (run 1 1) mark.None ∷ []) 3;
+      gives = attr-list-reading.gives (ident (run 1 1) mark.None ∷ []) 3 0;
     }
     -- `role="a"]`: nor did a role or an option, split out of a list that did
     ∷ record {
@@ -230,7 +231,7 @@ quoted_lines =
       kinds = word ∷ equal_signs ∷ double_quote ∷ word ∷ double_quote ∷ close_bracket ∷ [];
       lexemes = (114 ∷ 111 ∷ 108 ∷ 101 ∷ []) ∷ (61 ∷ []) ∷ (34 ∷ []) ∷ (97 ∷ []) ∷ (34 ∷ []) ∷ (93 ∷ []) ∷ [];
       room = 36;
-      gives = attr-list-reading.gives (role (run 3 1) ∷ []) 6;
+      gives = attr-list-reading.gives (role (run 3 1) ∷ []) 6 0;
     }
     -- `opts='a,b']`
     ∷ record {
@@ -238,7 +239,7 @@ quoted_lines =
       kinds = word ∷ equal_signs ∷ single_quote ∷ word ∷ comma ∷ word ∷ single_quote ∷ close_bracket ∷ [];
       lexemes = (111 ∷ 112 ∷ 116 ∷ 115 ∷ []) ∷ (61 ∷ []) ∷ (39 ∷ []) ∷ (97 ∷ []) ∷ (44 ∷ []) ∷ (98 ∷ []) ∷ (39 ∷ []) ∷ (93 ∷ []) ∷ [];
       room = 48;
-      gives = attr-list-reading.gives (option (run 3 1) ∷ option (run 5 1) ∷ []) 8;
+      gives = attr-list-reading.gives (option (run 3 1) ∷ option (run 5 1) ∷ []) 8 1;
     }
     -- `""]`: quotes with nothing between them
     ∷ record {
@@ -246,7 +247,7 @@ quoted_lines =
       kinds = double_quote ∷ double_quote ∷ close_bracket ∷ [];
       lexemes = (34 ∷ []) ∷ (34 ∷ []) ∷ (93 ∷ []) ∷ [];
       room = 18;
-      gives = attr-list-reading.gives (positional (run 0 0) mark.Double ∷ []) 3;
+      gives = attr-list-reading.gives (positional (run 0 0) mark.Double ∷ []) 3 0;
     }
     -- `k=""]`
     ∷ record {
@@ -254,7 +255,7 @@ quoted_lines =
       kinds = word ∷ equal_signs ∷ double_quote ∷ double_quote ∷ close_bracket ∷ [];
       lexemes = (107 ∷ []) ∷ (61 ∷ []) ∷ (34 ∷ []) ∷ (34 ∷ []) ∷ (93 ∷ []) ∷ [];
       room = 30;
-      gives = attr-list-reading.gives (named (run 0 1) (run 0 0) mark.Double ∷ []) 5;
+      gives = attr-list-reading.gives (named (run 0 1) (run 0 0) mark.Double ∷ []) 5 0;
     }
     -- `id=""]`: a diagnostic
     ∷ record {
@@ -262,7 +263,7 @@ quoted_lines =
       kinds = word ∷ equal_signs ∷ double_quote ∷ double_quote ∷ close_bracket ∷ [];
       lexemes = (105 ∷ 100 ∷ []) ∷ (61 ∷ []) ∷ (34 ∷ []) ∷ (34 ∷ []) ∷ (93 ∷ []) ∷ [];
       room = 30;
-      gives = attr-list-reading.gives (diagnostic 0 3 ∷ []) 5;
+      gives = attr-list-reading.gives (diagnostic 0 3 ∷ []) 5 0;
     }
     -- `subs="a"]`: tag 8
     ∷ record {
@@ -270,7 +271,7 @@ quoted_lines =
       kinds = word ∷ equal_signs ∷ double_quote ∷ word ∷ double_quote ∷ close_bracket ∷ [];
       lexemes = (115 ∷ 117 ∷ 98 ∷ 115 ∷ []) ∷ (61 ∷ []) ∷ (34 ∷ []) ∷ (97 ∷ []) ∷ (34 ∷ []) ∷ (93 ∷ []) ∷ [];
       room = 36;
-      gives = attr-list-reading.gives (plain (run 0 1) (run 3 1) mark.Double ∷ []) 6;
+      gives = attr-list-reading.gives (plain (run 0 1) (run 3 1) mark.Double ∷ []) 6 0;
     }
     -- `"a]`: no two quotes of one kind
     ∷ record {
@@ -278,7 +279,7 @@ quoted_lines =
       kinds = double_quote ∷ word ∷ close_bracket ∷ [];
       lexemes = (34 ∷ []) ∷ (97 ∷ []) ∷ (93 ∷ []) ∷ [];
       room = 18;
-      gives = attr-list-reading.gives (positional (run 0 2) mark.None ∷ []) 3;
+      gives = attr-list-reading.gives (positional (run 0 2) mark.None ∷ []) 3 0;
     }
     -- `"a']`
     ∷ record {
@@ -286,7 +287,7 @@ quoted_lines =
       kinds = double_quote ∷ word ∷ single_quote ∷ close_bracket ∷ [];
       lexemes = (34 ∷ []) ∷ (97 ∷ []) ∷ (39 ∷ []) ∷ (93 ∷ []) ∷ [];
       room = 24;
-      gives = attr-list-reading.gives (positional (run 0 3) mark.None ∷ []) 4;
+      gives = attr-list-reading.gives (positional (run 0 3) mark.None ∷ []) 4 0;
     }
     -- `"{x}a"]`: an AttrRef between the quote and the run
     ∷ record {
@@ -294,7 +295,7 @@ quoted_lines =
       kinds = double_quote ∷ attr_ref ∷ word ∷ double_quote ∷ close_bracket ∷ [];
       lexemes = (34 ∷ []) ∷ (123 ∷ 120 ∷ 125 ∷ []) ∷ (97 ∷ []) ∷ (34 ∷ []) ∷ (93 ∷ []) ∷ [];
       room = 30;
-      gives = attr-list-reading.gives (positional (run 2 1) mark.Double ∷ []) 5;
+      gives = attr-list-reading.gives (positional (run 2 1) mark.Double ∷ []) 5 0;
     }
     -- `"a".b]`: nothing was taken
     ∷ record {
@@ -302,7 +303,7 @@ quoted_lines =
       kinds = double_quote ∷ word ∷ double_quote ∷ dots ∷ word ∷ close_bracket ∷ [];
       lexemes = (34 ∷ []) ∷ (97 ∷ []) ∷ (34 ∷ []) ∷ (46 ∷ []) ∷ (98 ∷ []) ∷ (93 ∷ []) ∷ [];
       room = 36;
-      gives = attr-list-reading.gives (positional (run 0 5) mark.None ∷ []) 6;
+      gives = attr-list-reading.gives (positional (run 0 5) mark.None ∷ []) 6 0;
     }
     -- `a.b]`: what was cut
     ∷ record {
@@ -310,7 +311,7 @@ quoted_lines =
       kinds = word ∷ dots ∷ word ∷ close_bracket ∷ [];
       lexemes = (97 ∷ []) ∷ (46 ∷ []) ∷ (98 ∷ []) ∷ (93 ∷ []) ∷ [];
       room = 24;
-      gives = attr-list-reading.gives (positional (run 0 1) mark.None ∷ role (run 2 1) ∷ []) 4;
+      gives = attr-list-reading.gives (positional (run 0 1) mark.None ∷ role (run 2 1) ∷ []) 4 0;
     }
     -- `a."b"]`: quotes in the tail of a cut stay
     ∷ record {
@@ -318,7 +319,7 @@ quoted_lines =
       kinds = word ∷ dots ∷ double_quote ∷ word ∷ double_quote ∷ close_bracket ∷ [];
       lexemes = (97 ∷ []) ∷ (46 ∷ []) ∷ (34 ∷ []) ∷ (98 ∷ []) ∷ (34 ∷ []) ∷ (93 ∷ []) ∷ [];
       room = 36;
-      gives = attr-list-reading.gives (positional (run 0 1) mark.None ∷ role (run 2 3) ∷ []) 6;
+      gives = attr-list-reading.gives (positional (run 0 1) mark.None ∷ role (run 2 3) ∷ []) 6 0;
     }
     -- `"text"]`: a link's text
     ∷ record {
@@ -326,10 +327,85 @@ quoted_lines =
       kinds = double_quote ∷ word ∷ double_quote ∷ close_bracket ∷ [];
       lexemes = (34 ∷ []) ∷ (116 ∷ 101 ∷ 120 ∷ 116 ∷ []) ∷ (34 ∷ []) ∷ (93 ∷ []) ∷ [];
       room = 24;
-      gives = attr-list-reading.gives (positional (run 1 1) mark.Double ∷ []) 4;
+      gives = attr-list-reading.gives (positional (run 1 1) mark.Double ∷ []) 4 0;
     }
     ∷ []
 
 pub quotes-hold : map computed (map marked_line quoted_lines) ≡ map marked_line quoted_lines
-unfolding text_of pairs_from token-line.token_at token-line.tokens token-line.some_over token-line.misplaced token-line.refusal runs-run.without runs-run.up_to runs-run.onward runs-run.last_of runs-run.front runs-run.kept runs-run.trim_start runs-run.leave runs-run.trim_end runs-run.trim runs-run.quote_mark runs-run.quoted runs-run.inside runs-run.unquote runs-run.run_of runs-names.bytes runs-names.same_bytes delimiters-count.counted delimiters-delimit.start delimiters-delimit.at_comma delimiters-delimit.rejoin delimiters-delimit.rejoin_times delimiters-delimit.rejoin_to delimiters-delimit.note delimiters-delimit.at_quote delimiters-delimit.step delimiters-delimit.after delimiters-delimit.dividing delimiters-delimit.parted delimiters-delimit.attributes closing-closing.last_bracket closing-closing.unescaped closing-closing.next_bracket closing-link.turn closing-link.look_from closing-link.link_macro attr-ir-look.symbol_sight attr-ir-look.sight attr-ir-look.look attr-ir-ir.name_tokens attr-ir-ir.value attr-ir-ir.value_mark attr-ir-ir.value_tokens attr-ir-ir.name_of attr-ir-ir.named_ir attr-ir-ir.key_value_ir attr-ir-ir.ir_as attr-ir-ir.attr_ir put-rows-rows.pieces put-rows-rows.shorthand_read put-rows-rows.later_groups put-rows-rows.groups put-rows-rows.group_rows put-rows-rows.id_read attribute-attribute.cut_read attribute-attribute.ir_read attribute-attribute.reading attribute-attribute.attribute_in attribute-attribute.attribute list-rows-list-rows.rows_from closing-closing.last_begins attr-list-reading.lent_refusal attr-list-reading.reading customize-subs-customizing.meta_answer customize-subs-customizing.meta_refusal customize-subs-customizing.meta_of customize-subs-customizing.start_of customize-subs-customizing.through customize-subs-customizing.stepped customize-subs-customizing.name_of customize-subs-customizing.strategy_of customize-subs-customizing.entered customize-subs-text.modified customize-subs-text.spaced customize-subs-text.back customize-subs-text.blank customize-subs-text.front customize-subs-text.split customize-subs-text.on_first subs-names-names.lookup_of subs-names-names.same substitutions-moves.answer substitutions-moves.refusal_of substitutions-moves.prepend_of substitutions-moves.remove_of substitutions-moves.insert_of substitutions-moves.led substitutions-moves.without substitutions-moves.filled substitutions-held.sound substitutions-held.held substitutions-held.spares substitutions-held.spare substitutions-held.covered substitutions-held.once substitutions-held.packed substitutions-held.empty substitutions-held.small substitutions-held.times substitutions-kinds.sum substitutions-kinds.each substitutions-kinds.flagged
+unfolding text_of pairs_from token-line.token_at token-line.tokens token-line.some_over token-line.misplaced token-line.refusal runs-run.without runs-run.up_to runs-run.onward runs-run.last_of runs-run.front runs-run.kept runs-run.trim_start runs-run.leave runs-run.trim_end runs-run.trim runs-run.quote_mark runs-run.quoted runs-run.inside runs-run.unquote runs-run.run_of runs-names.bytes runs-names.same_bytes delimiters-count.counted delimiters-delimit.start delimiters-delimit.at_comma delimiters-delimit.rejoin delimiters-delimit.rejoin_times delimiters-delimit.rejoin_to delimiters-delimit.note delimiters-delimit.at_quote delimiters-delimit.step delimiters-delimit.after delimiters-delimit.dividing delimiters-delimit.rejoined delimiters-delimit.parted delimiters-delimit.attributes closing-closing.last_bracket closing-closing.unescaped closing-closing.next_bracket closing-link.turn closing-link.look_from closing-link.link_macro attr-ir-look.symbol_sight attr-ir-look.sight attr-ir-look.look attr-ir-ir.name_tokens attr-ir-ir.value attr-ir-ir.value_mark attr-ir-ir.value_tokens attr-ir-ir.name_of attr-ir-ir.named_ir attr-ir-ir.key_value_ir attr-ir-ir.ir_as attr-ir-ir.attr_ir put-rows-rows.pieces put-rows-rows.shorthand_read put-rows-rows.later_groups put-rows-rows.groups put-rows-rows.group_rows put-rows-rows.id_read attribute-attribute.cut_read attribute-attribute.ir_read attribute-attribute.reading attribute-attribute.attribute_in attribute-attribute.attribute list-rows-list-rows.rows_from closing-closing.last_begins attr-list-reading.lent_refusal attr-list-reading.reading customize-subs-customizing.meta_answer customize-subs-customizing.meta_refusal customize-subs-customizing.meta_of customize-subs-customizing.start_of customize-subs-customizing.through customize-subs-customizing.stepped customize-subs-customizing.name_of customize-subs-customizing.strategy_of customize-subs-customizing.entered customize-subs-text.modified customize-subs-text.spaced customize-subs-text.back customize-subs-text.blank customize-subs-text.front customize-subs-text.split customize-subs-text.on_first subs-names-names.lookup_of subs-names-names.same substitutions-moves.answer substitutions-moves.refusal_of substitutions-moves.prepend_of substitutions-moves.remove_of substitutions-moves.insert_of substitutions-moves.led substitutions-moves.without substitutions-moves.filled substitutions-held.sound substitutions-held.held substitutions-held.spares substitutions-held.spare substitutions-held.covered substitutions-held.once substitutions-held.packed substitutions-held.empty substitutions-held.small substitutions-held.times substitutions-kinds.sum substitutions-kinds.each substitutions-kinds.flagged
 quotes-hold = refl
+
+-- ---- how many commas were taken back
+
+-- lines of document 02's slip 5, with room for a row for each token
+abbrev taken_back_lines : List LineCase
+taken_back_lines =
+    -- `name=O'Brien,edition=3,second=O'Neill]`: the edition is part of the name
+    record {
+      entry = Block;
+      kinds = word ∷ equal_signs ∷ word ∷ single_quote ∷ word ∷ comma ∷ word ∷ equal_signs ∷ digits ∷ comma ∷ word ∷ equal_signs ∷ word ∷ single_quote ∷ word ∷ close_bracket ∷ [];
+      lexemes = (110 ∷ 97 ∷ 109 ∷ 101 ∷ []) ∷ (61 ∷ []) ∷ (79 ∷ []) ∷ (39 ∷ []) ∷ (66 ∷ 114 ∷ 105 ∷ 101 ∷ 110 ∷ []) ∷ (44 ∷ []) ∷ (101 ∷ 100 ∷ 105 ∷ 116 ∷ 105 ∷ 111 ∷ 110 ∷ []) ∷ (61 ∷ []) ∷ (51 ∷ []) ∷ (44 ∷ []) ∷ (115 ∷ 101 ∷ 99 ∷ 111 ∷ 110 ∷ 100 ∷ []) ∷ (61 ∷ []) ∷ (79 ∷ []) ∷ (39 ∷ []) ∷ (78 ∷ 101 ∷ 105 ∷ 108 ∷ 108 ∷ []) ∷ (93 ∷ []) ∷ [];
+      room = 96;
+      gives = attr-list-reading.gives (named (run 0 1) (run 2 13) mark.None ∷ []) 16 2;
+    }
+    -- `title="Lung,edition=3,note="left",width=8]`: a quote is forgotten behind Lung, and the edition is part of the title
+    ∷ record {
+      entry = Block;
+      kinds = word ∷ equal_signs ∷ double_quote ∷ word ∷ comma ∷ word ∷ equal_signs ∷ digits ∷ comma ∷ word ∷ equal_signs ∷ double_quote ∷ word ∷ double_quote ∷ comma ∷ word ∷ equal_signs ∷ digits ∷ close_bracket ∷ [];
+      lexemes = (116 ∷ 105 ∷ 116 ∷ 108 ∷ 101 ∷ []) ∷ (61 ∷ []) ∷ (34 ∷ []) ∷ (76 ∷ 117 ∷ 110 ∷ 103 ∷ []) ∷ (44 ∷ []) ∷ (101 ∷ 100 ∷ 105 ∷ 116 ∷ 105 ∷ 111 ∷ 110 ∷ []) ∷ (61 ∷ []) ∷ (51 ∷ []) ∷ (44 ∷ []) ∷ (110 ∷ 111 ∷ 116 ∷ 101 ∷ []) ∷ (61 ∷ []) ∷ (34 ∷ []) ∷ (108 ∷ 101 ∷ 102 ∷ 116 ∷ []) ∷ (34 ∷ []) ∷ (44 ∷ []) ∷ (119 ∷ 105 ∷ 100 ∷ 116 ∷ 104 ∷ []) ∷ (61 ∷ []) ∷ (56 ∷ []) ∷ (93 ∷ []) ∷ [];
+      room = 114;
+      gives = attr-list-reading.gives (named (run 0 1) (run 3 10) mark.Double ∷ named (run 15 1) (run 17 1) mark.None ∷ []) 19 2;
+    }
+    -- `',"',"]`: both commas are inside a pair, and the pairs cross
+    ∷ record {
+      entry = Block;
+      kinds = single_quote ∷ comma ∷ double_quote ∷ single_quote ∷ comma ∷ double_quote ∷ close_bracket ∷ [];
+      lexemes = (39 ∷ []) ∷ (44 ∷ []) ∷ (34 ∷ []) ∷ (39 ∷ []) ∷ (44 ∷ []) ∷ (34 ∷ []) ∷ (93 ∷ []) ∷ [];
+      room = 42;
+      gives = attr-list-reading.gives (positional (run 1 2) mark.Single ∷ positional (run 5 1) mark.None ∷ []) 7 1;
+    }
+    -- `a]b,c]`: no comma is counted
+    ∷ record {
+      entry = Block;
+      kinds = word ∷ close_bracket ∷ word ∷ comma ∷ word ∷ close_bracket ∷ [];
+      lexemes = (97 ∷ []) ∷ (93 ∷ []) ∷ (98 ∷ []) ∷ (44 ∷ []) ∷ (99 ∷ []) ∷ (93 ∷ []) ∷ [];
+      room = 36;
+      gives = attr-list-reading.gives (positional (run 0 5) mark.None ∷ []) 6 0;
+    }
+    -- `]","`: read as empty
+    ∷ record {
+      entry = Link;
+      kinds = close_bracket ∷ double_quote ∷ comma ∷ double_quote ∷ [];
+      lexemes = (93 ∷ []) ∷ (34 ∷ []) ∷ (44 ∷ []) ∷ (34 ∷ []) ∷ [];
+      room = 24;
+      gives = attr-list-reading.gives [] 1 0;
+    }
+    -- `"a,b",k=v]`: a link that is a list
+    ∷ record {
+      entry = Link;
+      kinds = double_quote ∷ word ∷ comma ∷ word ∷ double_quote ∷ comma ∷ word ∷ equal_signs ∷ word ∷ close_bracket ∷ [];
+      lexemes = (34 ∷ []) ∷ (97 ∷ []) ∷ (44 ∷ []) ∷ (98 ∷ []) ∷ (34 ∷ []) ∷ (44 ∷ []) ∷ (107 ∷ []) ∷ (61 ∷ []) ∷ (118 ∷ []) ∷ (93 ∷ []) ∷ [];
+      room = 60;
+      gives = attr-list-reading.gives (positional (run 1 3) mark.Double ∷ named (run 6 1) (run 8 1) mark.None ∷ []) 10 1;
+    }
+    -- `"a,b"]`: a link read as text
+    ∷ record {
+      entry = Link;
+      kinds = double_quote ∷ word ∷ comma ∷ word ∷ double_quote ∷ close_bracket ∷ [];
+      lexemes = (34 ∷ []) ∷ (97 ∷ []) ∷ (44 ∷ []) ∷ (98 ∷ []) ∷ (34 ∷ []) ∷ (93 ∷ []) ∷ [];
+      room = 36;
+      gives = attr-list-reading.gives (positional (run 1 3) mark.Double ∷ []) 6 0;
+    }
+    -- `",",a`: refused after it is delimited
+    ∷ record {
+      entry = Block;
+      kinds = double_quote ∷ comma ∷ double_quote ∷ comma ∷ word ∷ [];
+      lexemes = (34 ∷ []) ∷ (44 ∷ []) ∷ (34 ∷ []) ∷ (44 ∷ []) ∷ (97 ∷ []) ∷ [];
+      room = 30;
+      gives = attr-list-reading.refused 8;
+    }
+    ∷ []
+
+pub taken-back-hold : map computed (map marked_line taken_back_lines) ≡ map marked_line taken_back_lines
+unfolding text_of pairs_from token-line.token_at token-line.tokens token-line.some_over token-line.misplaced token-line.refusal runs-run.without runs-run.up_to runs-run.onward runs-run.last_of runs-run.front runs-run.kept runs-run.trim_start runs-run.leave runs-run.trim_end runs-run.trim runs-run.quote_mark runs-run.quoted runs-run.inside runs-run.unquote runs-run.run_of runs-names.bytes runs-names.same_bytes delimiters-count.counted delimiters-delimit.start delimiters-delimit.at_comma delimiters-delimit.rejoin delimiters-delimit.rejoin_times delimiters-delimit.rejoin_to delimiters-delimit.note delimiters-delimit.at_quote delimiters-delimit.step delimiters-delimit.after delimiters-delimit.dividing delimiters-delimit.rejoined delimiters-delimit.parted delimiters-delimit.attributes closing-closing.last_bracket closing-closing.unescaped closing-closing.next_bracket closing-link.turn closing-link.look_from closing-link.link_macro attr-ir-look.symbol_sight attr-ir-look.sight attr-ir-look.look attr-ir-ir.name_tokens attr-ir-ir.value attr-ir-ir.value_mark attr-ir-ir.value_tokens attr-ir-ir.name_of attr-ir-ir.named_ir attr-ir-ir.key_value_ir attr-ir-ir.ir_as attr-ir-ir.attr_ir put-rows-rows.pieces put-rows-rows.shorthand_read put-rows-rows.later_groups put-rows-rows.groups put-rows-rows.group_rows put-rows-rows.id_read attribute-attribute.cut_read attribute-attribute.ir_read attribute-attribute.reading attribute-attribute.attribute_in attribute-attribute.attribute list-rows-list-rows.rows_from closing-closing.last_begins attr-list-reading.lent_refusal attr-list-reading.reading customize-subs-customizing.meta_answer customize-subs-customizing.meta_refusal customize-subs-customizing.meta_of customize-subs-customizing.start_of customize-subs-customizing.through customize-subs-customizing.stepped customize-subs-customizing.name_of customize-subs-customizing.strategy_of customize-subs-customizing.entered customize-subs-text.modified customize-subs-text.spaced customize-subs-text.back customize-subs-text.blank customize-subs-text.front customize-subs-text.split customize-subs-text.on_first subs-names-names.lookup_of subs-names-names.same substitutions-moves.answer substitutions-moves.refusal_of substitutions-moves.prepend_of substitutions-moves.remove_of substitutions-moves.insert_of substitutions-moves.led substitutions-moves.without substitutions-moves.filled substitutions-held.sound substitutions-held.held substitutions-held.spares substitutions-held.spare substitutions-held.covered substitutions-held.once substitutions-held.packed substitutions-held.empty substitutions-held.small substitutions-held.times substitutions-kinds.sum substitutions-kinds.each substitutions-kinds.flagged
+taken-back-hold = refl

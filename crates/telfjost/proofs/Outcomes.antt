@@ -17,18 +17,19 @@ use Rattle.telfjost.specs.Outcome.{NumbersOf, ListOutcome}
 -- a refusal's number is not 0
 abbrev Told : Answer → Type 0
 Told (Refused n) = 0 < n
-Told (Read rows consumed) = Unit {0}
+Told (Read rows consumed rejoined) = Unit {0}
 
 told : (r : Reading) → Numbered r → Told (answer_of r)
 told (refused n) w = w
-told (gives rows consumed) w = tt
+told (gives rows consumed rejoined) w = tt
 
 module _ (e : Entry) (l : Line) (given left : List ℕ) (r : TelfjostList) where
-  list-said : (a : Answer) → Told a → NumbersOf a r → WhenReadAsList most_tokens e l given a left → r.refusal ≡ 0 → TakenAsList e l → ReadAsList most_tokens e l given r.rows r.consumed left
+  list-said : (a : Answer) → Told a → NumbersOf a r → WhenReadAsList most_tokens e l given a left → r.refusal ≡ 0 → TakenAsList e l → ReadAsList most_tokens e l given r.rows r.consumed r.rejoined left
   list-said (Refused n) v w s z t = absurd (omega (arith, v, w.refusal, z))
-  list-said (Read rows consumed) v w s z t =
-      subst (λ (x : ℕ). ReadAsList most_tokens e l given x r.consumed left) (sym w.rows)
-      (subst (λ (x : ℕ). ReadAsList most_tokens e l given rows x left) (sym w.consumed) (s t))
+  list-said (Read rows consumed rejoined) v w s z t =
+      subst (λ (x : ℕ). ReadAsList most_tokens e l given x r.consumed r.rejoined left) (sym w.rows)
+      (subst (λ (x : ℕ). ReadAsList most_tokens e l given rows x r.rejoined left) (sym w.consumed)
+      (subst (λ (x : ℕ). ReadAsList most_tokens e l given rows consumed x left) (sym w.rejoined) (s t)))
 
   pub list-outcome : (a : Answer) → Outcome most_tokens e l given a left → NumbersOf a r → ListOutcome e l given r left
   list-outcome a o w =

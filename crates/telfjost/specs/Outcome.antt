@@ -4,7 +4,7 @@ use Rattle.refusals.specs.declared.Refusal.{Refusal}
 use Rattle.token.specs.Line.{Line, most_tokens}
 use Rattle.attr_list.specs.Answer.{Answer}
 use Rattle.attr_list.specs.declared.entries.Entry.{Entry}
-use Rattle.attr_list.specs.Reading.{reading, answer_of, buffer_of, refusal_of, rows_of, consumed_of}
+use Rattle.attr_list.specs.Reading.{reading, answer_of, buffer_of, refusal_of, rows_of, consumed_of, rejoined_of}
 use Rattle.attr_list.specs.ReadAsList.{TakenAsList, ReadAsList}
 use Rattle.attr_list.specs.Block as block
 use Rattle.attr_list.specs.Told.{told, told_line}
@@ -26,6 +26,7 @@ pub record NumbersOf (a : Answer) (r : TelfjostList) : Type 0 where
   pub refusal : r.refusal ≡ refusal_of a
   pub rows : r.rows ≡ rows_of a
   pub consumed : r.consumed ≡ consumed_of a
+  pub rejoined : r.rejoined ≡ rejoined_of a
 
 abbrev pub ListNumbers : Result code.Read Refusal → TelfjostList → Type 0
 ListNumbers a r = NumbersOf (told a) r
@@ -36,4 +37,4 @@ pub record ListOutcome (e : Entry) (l : Line) (given : List ℕ) (r : TelfjostLi
   pub numbers : NumbersOf (answer_of (reading most_tokens e l (length given))) r
   pub buffer : left ≡ buffer_of given (reading most_tokens e l (length given))
   -- never divided wrongly, said of these numbers
-  pub list : r.refusal ≡ 0 → TakenAsList e l → ReadAsList most_tokens e l given r.rows r.consumed left
+  pub list : r.refusal ≡ 0 → TakenAsList e l → ReadAsList most_tokens e l given r.rows r.consumed r.rejoined left

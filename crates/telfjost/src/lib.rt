@@ -18,14 +18,15 @@ pub struct TelfjostBool {
     pub yes: usize,
 }
 
-// A refusal, 0 for none, how many rows are written and how many tokens are consumed; the last two are 0 where the call is refused. Numbers, since C
-// has to read them.
+// A refusal, 0 for none, how many rows are written, how many tokens are consumed and how many commas were taken back; the last three are 0 where the
+// call is refused. Numbers, since C has to read them.
 #[repr(C)]
 #[derive(Clone, Copy)]
 pub struct TelfjostList {
     pub refusal: usize,
     pub rows: usize,
     pub consumed: usize,
+    pub rejoined: usize,
 }
 
 impl From<Result<bool, Refusal>> for TelfjostBool {

@@ -17,11 +17,13 @@ impl From<Result<Read, Refusal>> for TelfjostList {
                 refusal: 0,
                 rows: read.rows,
                 consumed: read.consumed,
+                rejoined: read.rejoined,
             },
             Err(refusal) => TelfjostList {
                 refusal: usize::from(refusal),
                 rows: 0,
                 consumed: 0,
+                rejoined: 0,
             },
         }
     }

@@ -20,12 +20,12 @@ tokens-preserved-in_default-remain c =
     let n = c.saturating_sub-counted.result in
     let lt = within n c.tokens.i c.args.kinds.now c.tokens-test.true in
     let e = get_or-take n c.args.kinds.now c.tokens.i 0 lt.0 in (
-      going-all _ _ c.in_default-remain.is (elim c.match-try_from.branch [
-        | in-Ok-Comma w ↦ going-moved c.tokens.i w.commas-is w.stretches-is w.remain-is w.double-is w.single-is (going-comma v (omega arith) lt.1 (matched (sym e ∙ w.in-Ok-Comma.ensures) w.in-Ok-Comma.field-0-is))
-        | in-Ok-DoubleQuote w ↦ going-moved c.tokens.i w.commas-is w.stretches-is w.remain-is w.double-is w.single-is (going-double v (omega arith) lt.1 _ (matched (sym e ∙ w.in-Ok-DoubleQuote.ensures) w.in-Ok-DoubleQuote.field-0-is) w.at_quote-remain.ensures)
-        | in-Ok-SingleQuote w ↦ going-moved c.tokens.i w.commas-is w.stretches-is w.remain-is w.double-is w.single-is (going-single v (omega arith) lt.1 _ (matched (sym e ∙ w.in-Ok-SingleQuote.ensures) w.in-Ok-SingleQuote.field-0-is) w.at_quote-remain-in-Ok-SingleQuote.ensures)
-        | in_default w ↦ going-moved c.tokens.i w.commas-is w.stretches-is w.remain-is w.double-is w.single-is (going-other v (omega arith) lt.1 (λ f. search (rules, e)) (λ f. search (rules, e)) (λ f. search (rules, e)) (λ f. search (rules, e)))
-        | in_default-2 w ↦ going-moved c.tokens.i w.commas-is w.stretches-is w.remain-is w.double-is w.single-is (going-other v (omega arith) lt.1 (λ f. search (rules, e)) (λ f. search (rules, e)) (λ f. search (rules, e)) (λ f. search (rules, e)))
+      going-all _ _ _ c.in_default-remain.is (elim c.match-try_from.branch [
+        | in-Ok-Comma w ↦ going-moved c.tokens.i _ w.commas-is w.stretches-is w.remain-is w.double-is w.single-is (going-comma v (omega arith) lt.1 (matched (sym e ∙ w.in-Ok-Comma.ensures) w.in-Ok-Comma.field-0-is))
+        | in-Ok-DoubleQuote w ↦ going-moved c.tokens.i _ w.commas-is w.stretches-is w.remain-is w.double-is w.single-is (going-double v (omega arith) lt.1 _ (matched (sym e ∙ w.in-Ok-DoubleQuote.ensures) w.in-Ok-DoubleQuote.field-0-is) w.at_quote-remain.ensures)
+        | in-Ok-SingleQuote w ↦ going-moved c.tokens.i _ w.commas-is w.stretches-is w.remain-is w.double-is w.single-is (going-single v (omega arith) lt.1 _ (matched (sym e ∙ w.in-Ok-SingleQuote.ensures) w.in-Ok-SingleQuote.field-0-is) w.at_quote-remain-in-Ok-SingleQuote.ensures)
+        | in_default w ↦ going-moved c.tokens.i _ w.commas-is w.stretches-is w.remain-is w.double-is w.single-is (going-other v (omega arith) lt.1 (λ f. search (rules, e)) (λ f. search (rules, e)) (λ f. search (rules, e)) (λ f. search (rules, e)))
+        | in_default-2 w ↦ going-moved c.tokens.i _ w.commas-is w.stretches-is w.remain-is w.double-is w.single-is (going-other v (omega arith) lt.1 (λ f. search (rules, e)) (λ f. search (rules, e)) (λ f. search (rules, e)) (λ f. search (rules, e)))
       ]),
       c.tokens.invariant.1,
     )
@@ -37,10 +37,10 @@ loop-stretches-init c =
     let n = c.saturating_sub-counted.result in
     let lt = within n c.tokens.i c.args.kinds.now c.tokens-test.true in
     let e = get_or-take n c.args.kinds.now c.tokens.i 0 lt.0 in
-    going-few _ _ _ c.in-Some.is (elim c.match-try_from.branch [
+    going-few _ _ _ _ c.in-Some.is (elim c.match-try_from.branch [
       | in-Ok-Comma w ↦ absurd (search rules)
-      | in-Ok-DoubleQuote w ↦ going-moved c.tokens.i w.commas-is w.stretches-is w.remain-is w.double-is w.single-is (going-double v (omega arith) lt.1 _ (matched (sym e ∙ w.in-Ok-DoubleQuote.ensures) w.in-Ok-DoubleQuote.field-0-is) w.at_quote-remain.ensures)
-      | in-Ok-SingleQuote w ↦ going-moved c.tokens.i w.commas-is w.stretches-is w.remain-is w.double-is w.single-is (going-single v (omega arith) lt.1 _ (matched (sym e ∙ w.in-Ok-SingleQuote.ensures) w.in-Ok-SingleQuote.field-0-is) w.at_quote-remain-in-Ok-SingleQuote.ensures)
+      | in-Ok-DoubleQuote w ↦ going-moved c.tokens.i _ w.commas-is w.stretches-is w.remain-is w.double-is w.single-is (going-double v (omega arith) lt.1 _ (matched (sym e ∙ w.in-Ok-DoubleQuote.ensures) w.in-Ok-DoubleQuote.field-0-is) w.at_quote-remain.ensures)
+      | in-Ok-SingleQuote w ↦ going-moved c.tokens.i _ w.commas-is w.stretches-is w.remain-is w.double-is w.single-is (going-single v (omega arith) lt.1 _ (matched (sym e ∙ w.in-Ok-SingleQuote.ensures) w.in-Ok-SingleQuote.field-0-is) w.at_quote-remain-in-Ok-SingleQuote.ensures)
       | in_default w ↦ absurd (search rules)
       | in_default-2 w ↦ absurd (search rules)
     ])
@@ -50,7 +50,7 @@ returns c =
     let at = c.tokens in
     let n = c.saturating_sub-counted.result in
     let long = length-take n c.args.kinds.now in
-    let done = found _ _ at.commas at.stretches at.double at.single at.i at.invariant.0 (omega arith) (omega (arith, long)) in
+    let done = found _ _ at.commas at.stretches at.rejoined at.double at.single at.i at.invariant.0 (omega arith) (omega (arith, long)) in
     elim c.tokens-test.branch [
       | else-tokens-test w ↦
           let e : c.tokens-test.counted ≡ at.i = omega (arith, at.invariant.1, long) in

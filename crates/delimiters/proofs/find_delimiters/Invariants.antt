@@ -7,10 +7,10 @@ use Rattle.delimiters.proofs.Turns.{Going}
 use Rattle.delimiters.proofs.find_delimiters.Given as goal
 
 abbrev pub invariant-loop-stretches : goal.invariant-loop-stretches
-invariant-loop-stretches l = Going l.kinds l.fn.commas l.commas (min l.stretches l.remain) l.double l.single (l.i + 1)
+invariant-loop-stretches l = Going l.kinds l.fn.commas l.commas (min l.stretches l.remain) (l.rejoined + (l.stretches - l.remain)) l.double l.single (l.i + 1)
 
 abbrev pub decreases-loop-stretches : goal.decreases-loop-stretches
 decreases-loop-stretches l = l.stretches - l.remain
 
 abbrev pub invariant-tokens : goal.invariant-tokens
-invariant-tokens l = Going l.kinds l.fn.commas l.commas l.stretches l.double l.single l.i × (l.counted ≡ length l.kinds - 1)
+invariant-tokens l = Going l.kinds l.fn.commas l.commas l.stretches l.rejoined l.double l.single l.i × (l.counted ≡ length l.kinds - 1)

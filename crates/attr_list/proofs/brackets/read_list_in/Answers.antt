@@ -35,4 +35,4 @@ pub returns : goal.returns
 returns c =
     let l = c.args.held.line in
     let wrote = subst (λ (b : Bool). Wrote c.args.rows.now 0 (parted_rows (line_in l) b (take c.find_delimiters-delimited.result.commas c.find_delimiters-delimited.new.commas) c.in-Some.end.0) c.list_rows-written.new.rows c.list_rows-written.result) c.is_block.ensures c.list_rows-written.ensures in
-    list-gives l.kinds.now _ _ (known c.closing_bracket.result l.kinds.now c.closing_bracket.ensures c.is_full_line.ensures) l.lent.some _ c.in-Some.is _ c.find_delimiters-delimited.ensures.places l.text.now l.pairs.now c.args.held.open _ _ _ _ wrote
+    list-gives l.kinds.now _ _ (known c.closing_bracket.result l.kinds.now c.closing_bracket.ensures c.is_full_line.ensures) l.lent.some _ c.in-Some.is _ c.find_delimiters-delimited.ensures.places l.text.now l.pairs.now c.args.held.open _ _ _ _ _ wrote c.find_delimiters-delimited.ensures.back

@@ -3,8 +3,8 @@
  * allocated with exactly the size that the call names, so that one byte too far is seen; the row
  * buffer is not set beforehand in half of the calls, so that reading it is seen too. Looks also at
  * what every answer must keep: the refusal is of the table, a refused call leaves the row buffer
- * and the set, no number behind the rows changes, and every row has a tag, runs in the line and a
- * quote mark that its tag may have.
+ * and the set, no number behind the rows changes, every row has a tag, runs in the line and a quote
+ * mark that its tag may have, and no more commas are taken back than are counted.
  *
  *   memory CALLS SEED
  */
@@ -143,10 +143,10 @@ static void look_at_rows(const struct line *l, const uint32_t *rows, telfjost_li
     if (a.rows > l->tokens || a.consumed == 0 || a.consumed > l->tokens)
         wrong("more rows or tokens than the line has");
     size_t commas = 0;
-    for (size_t i = 0; i < l->tokens; i++)
+    for (size_t i = 0; i + 1 < l->tokens && l->kinds[i] != CLOSE_BRACKET; i++)
         commas += l->kinds[i] == COMMA;
     if (a.rejoined > commas)
-        wrong("more commas taken back than the line has");
+        wrong("more commas taken back than are counted");
     for (size_t r = 0; r < a.rows; r++) {
         const uint32_t *row = rows + ROW * r;
         if (row[0] < 1 || row[0] > 8)

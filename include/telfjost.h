@@ -96,11 +96,12 @@ typedef struct {
  *
  * A line whose first token is CloseBracket gives no rows, 1 consumed, by every entry.
  *
- * Commas taken back: the second quote of a kind joins what stands after its first, the commas too,
- * and each comma that this takes out of the division counts once. With the commas that divide they
- * make exactly the commas counted: those before the first CloseBracket and before the last token.
- * In `name=O'Brien,edition=3,second=O'Neill` 2 are taken back, and the edition is part of the name:
- * an editor can warn. 0 where the first token is CloseBracket, and for a link read as text.
+ * Commas taken back: a second quote of a kind takes back commas that stand between it and its first,
+ * as docs/RULES.md, R15, says; each counts once, and no longer divides. Of a line read as a list they
+ * make, with the commas that divide, exactly the commas counted: those before the first CloseBracket
+ * and before the last token. In `name=O'Brien,edition=3,second=O'Neill]` 2 are taken back, and the
+ * edition is part of the name: so an editor can warn the author (docs/TAKEN-BACK.md). It is 0 where the
+ * first token is CloseBracket, and for a link read as text.
  */
 
 /* A block attribute line. Shorthand (.role #id %option) is read. The last token closes; any

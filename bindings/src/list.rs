@@ -181,11 +181,12 @@ impl<'l> List<'l> {
     }
 
     /// Commas taken back: counted ones that a second quote of a pair joined to what stands before them,
-    /// so that they do not divide. With the dividing commas they are all the commas counted. It is 0
-    /// where the first token closes the list, and for a link that is read as text.
+    /// so that they do not divide. Of a line that is read as a list they and the dividing commas are all
+    /// the commas counted. It is 0 where the first token closes the list, and for a link that is read as
+    /// text.
     ///
-    /// Where an author meant a comma to divide, as after a quote that was forgotten, this is the one
-    /// sign of it: the line is read, and an attribute has become part of its neighbour.
+    /// Where a quote was forgotten and the one before it pairs with a later one, no diagnostic says so:
+    /// this number does. An attribute has then become part of its neighbour. docs/TAKEN-BACK.md tells more.
     ///
     /// ```
     /// use telfjost::{Kind, Line};

@@ -23,7 +23,7 @@ pub struct Tally {
     pub diagnostics: [u64; 5],
     /// Lines read, by how many commas were taken back: none, one, two, more.
     pub taken_back: [u64; 4],
-    /// Lines read in which another number of commas stands inside complete pairs than was taken back.
+    /// Lines in which a comma was taken back, and another number of commas stands inside complete pairs.
     pub crossing: u64,
     /// Moves by what they did: see `MOVED`.
     pub moves: [u64; 6],

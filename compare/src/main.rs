@@ -131,7 +131,7 @@ fn report(tally: &Tally, seconds: f64) {
         println!("moves by what they did: {}", did.join("; "));
     }
     let counted = [
-        ("lines of which another number of commas stands inside quotes than was taken back", tally.crossing),
+        ("lines in which commas were taken back, and more stand inside pairs of quotes", tally.crossing),
         ("is_block_attr_list said yes", tally.yes),
         ("link text closed by another token, which the Rust takes and 8 is due", tally.other_closing),
     ];
@@ -196,9 +196,9 @@ fn usage() -> ExitCode {
        compare --self-test                the Rust side and the harness's own reading alone
        compare --record                   makes the recorded answers anew
        compare --minutes N [--seed S]     the comparison, longer, then fresh random cases until N minutes are over
-       compare --line ENTRY TEXT          what the Rust gives for a line, and the quote marks (block, macro, inline,
-                                          link; is: whether the line, opening bracket and all, is a block attribute
-                                          list)
+       compare --line ENTRY TEXT          what the Rust gives for a line, how many commas it takes back, and the quote
+                                          marks (block, macro, inline, link; is: whether the line, opening bracket and
+                                          all, is a block attribute list)
        compare --lines ENTRY              what the Rust gives for each line of the standard input, in words, without
                                           the quote marks
        compare --our-side                 differences.txt with the sides of the Rust and of this reader made anew
@@ -303,8 +303,8 @@ fn main() -> ExitCode {
     ExitCode::SUCCESS
 }
 
-/// What the Rust gives for a line of plain text, and the quote marks; no marks where this reader
-/// refuses what the Rust takes.
+/// What the Rust gives for a line of plain text, how many commas it takes back, and the quote marks; no
+/// marks where this reader refuses what the Rust takes.
 fn show_line(entry: &str, text: &str) -> ExitCode {
     let line = lines::LineBuf::lex(text);
     if line.kinds.is_empty() {

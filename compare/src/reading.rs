@@ -232,8 +232,8 @@ fn delimit(line: Lent<'_>, commas: &mut Vec<usize>) -> usize {
     rejoined
 }
 
-/// How many counted commas stand inside a complete pair of quotes: where pairs cross, this is not how
-/// many are taken back.
+/// How many counted commas stand inside a complete pair of quotes: where pairs cross, these can be more
+/// than are taken back.
 pub fn commas_inside(line: Lent<'_>) -> usize {
     let last = line.kinds.len() - 1;
     let counted = (0..last).find(|place| kind(line, *place) == CloseBracket).unwrap_or(last);

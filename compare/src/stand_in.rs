@@ -23,7 +23,7 @@ use crate::unreached::missing;
 #[derive(Default)]
 pub struct Bump {
     pub log: RefCell<Vec<Unmarked>>,
-    /// How often the stack of delimiting gave a comma back.
+    /// How often the stack of `find_delimiters` was popped: once for each comma taken back.
     pub popped: Cell<usize>,
 }
 

@@ -82,6 +82,6 @@ int main(void)
 
     /* the same line without its closing bracket: refusal 8, and rows stays as it was */
     answer = telfjost_block_attr_list(kinds, TOKENS - 1, text, bytes, pairs, 2 * (TOKENS - 1), rows, ROW * TOKENS);
-    printf("without its bracket: refused, %zu\n", answer.refusal);
+    printf("without its bracket: refused, %zu; commas taken back: %zu\n", answer.refusal, answer.rejoined);
     return 0;
 }

@@ -1,5 +1,5 @@
--- The statement of demand 3 leaves one answer: rows, tokens consumed, commas taken back and a buffer on return that satisfy it, for an entry, a line and
--- a buffer given, are the ones that the equations give.
+-- The statement of demand 3 leaves one answer: rows, tokens consumed, commas taken back and a buffer on return that satisfy it, for an entry, a line
+-- and a buffer given, are the ones that the equations give.
 use Rattle.std.specs.Prelude.{ℕ, ◌+◌, ◌*◌, ◌≤◌, Bool, cond, ◌≡◌, refl, List, [], ◌++◌, length, take, drop}
 use Rattle.std.proofs.Common.{arith, sym, ◌∙◌, inl, inr, take-append-drop, eq-eqb, ne_eqb}
 use Rattle.std.proofs.Math.Decide.{ℕ_discrete}

@@ -7,8 +7,8 @@ use Rattle.delimiters.specs.Delimit.{start, at_comma, rejoin, rejoin_times, rejo
 use Rattle.delimiters.specs.Pairs.{before, Pair, Cross, Inside, Uncrossed}
 use Rattle.delimiters.specs.Divide.{Divides}
 
--- the kinds of a line and the place of its closing bracket; how many tokens and how many of their commas are counted, the dividing commas, how many were
--- taken back, and the attributes
+-- the kinds of a line and the place of its closing bracket; how many tokens and how many of their commas are counted, the dividing commas, how many
+-- were taken back, and the attributes
 pub record Case : Type 0 where
   pub kinds : List ℕ
   pub end : ℕ

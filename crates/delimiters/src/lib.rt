@@ -1,4 +1,5 @@
-// Delimiting: which commas of a line divide it into attributes. The rule stands in specs/Delimit.antt, what holds of every line in specs/Divide.antt.
+// Delimiting: which commas of a line divide it into attributes, and how many were taken back. The rule stands in specs/Delimit.antt, what holds of
+// every line in specs/Divide.antt.
 #![tactic(auto)]
 
 ghost use Rattle.std.specs.Prelude.{◌≤◌, length};
@@ -7,9 +8,9 @@ ghost use Rattle.delimiters.specs.Outcome.{Outcome};
 
 use token::kind::TokenKind;
 
-// How many tokens are counted, how many of their commas divide, and how many were taken back: stretches that a second quote rejoined. A count of commas
-// and no slice of the buffer: the contract says what each number of the buffer is as the call returns, and a buffer that the answer still borrows has no
-// value then (tried).
+// How many tokens are counted, how many of their commas divide, and how many were taken back: stretches that a second quote rejoined. A count of
+// commas and no slice of the buffer: the contract says what each number of the buffer is as the call returns, and a buffer that the answer still
+// borrows has no value then (tried).
 #[derive(Clone, Copy, Debug, PartialEq, Eq)]
 pub struct Delimited {
     pub counted: usize,
@@ -32,8 +33,8 @@ fn at_quote(noted: &mut Option<usize>, stretches: usize) -> Option<usize>
 }
 
 // Delimits a line by the kinds of its tokens, and leaves the places of the dividing commas, first to last, at the front of `commas`. The slice has
-// room for every token, and its numbers for every place. Inlined: as a function of its own it hands its three numbers over in memory, and a list of three
-// tokens took a tenth longer.
+// room for every token, and its numbers for every place. Inlined: as a function of its own it hands its three numbers over in memory, and a list of
+// three tokens took a tenth longer.
 #[inline(always)]
 pub fn find_delimiters(kinds: &[u8], commas: &mut [u16]) -> Delimited
     requires room { length kinds.now ≤ length commas.old }
@@ -65,8 +66,8 @@ pub fn find_delimiters(kinds: &[u8], commas: &mut [u16]) -> Delimited
             continue 'tokens;
         };
         // Rejoin the last stretch to the one before it while more than those remain. A turn takes back one comma, which was stored for a token of its
-        // own, so over a whole line there are fewer turns than tokens (`rejoinings-few` of CommaLaws): the time is linear. A loop by hand, and no `min`,
-        // as is the labelled loop around it: document 01 names these forms.
+        // own, so over a whole line there are fewer turns than tokens (`rejoinings-few` of CommaLaws): the time is linear. A loop by hand, and no
+        // `min`, as is the labelled loop around it: document 01 names these forms.
         while remain < stretches {
             stretches -= 1;
             rejoined += 1;

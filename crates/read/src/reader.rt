@@ -9,8 +9,8 @@ use row::WIDTH;
 use std::alloc::{AllocError, Global};
 use token::line::MOST_TOKENS;
 
-// What a reading finds: its rows, each as the numbers that the library writes to the buffer it is lent, how many tokens it consumed, and how many commas it
-// took back.
+// What a reading finds: its rows, each as the numbers that the library writes to the buffer it is lent, how many tokens it consumed, and how many
+// commas it took back.
 #[derive(Drop)]
 pub(crate) struct Reading {
     pub(crate) rows: Vec<[u32; WIDTH]>,

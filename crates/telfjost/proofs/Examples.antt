@@ -1,5 +1,5 @@
--- Document 01's cases that it marks P, lines and subs texts, in one list, proved by one fact about the definitions; and lines of document 02's quote marks
--- and commas taken back.
+-- Document 01's cases that it marks P, lines and subs texts, in one list, proved by one fact about the definitions; and lines for document 02's quote
+-- marks and commas taken back.
 use Rattle.std.specs.Prelude.{ℕ, ◌+◌, true, ◌≡◌, refl, List, [], ◌∷◌, ◌++◌, map, length}
 use Rattle.substitutions.specs.declared.Mode.{Mode}
 use Rattle.substitutions.specs.declared.Mode.TheVariants.{Port, Sheet}
@@ -179,7 +179,7 @@ abbrev pub gives : Put → Given
 gives (line c) = rows (attr-list-reading.reading token-line.most_tokens c.entry (token-line.line_of c.kinds (text_of c.lexemes) (pairs_from 0 c.lexemes)) c.room)
 gives (subs c) = answer (customize-subs-customizing.meta_answer c.mode c.given true c.text)
 
--- what document 01 says: rows and tokens consumed of a line; of a subs text the set, and no refusal
+-- what is due: of a line the rows, tokens consumed and commas taken back; of a subs text the set, and no refusal
 abbrev pub marked_line : LineCase → Marked
 marked_line c = record { put = line c; gives = rows c.gives }
 
@@ -337,7 +337,7 @@ quotes-hold = refl
 
 -- ---- how many commas were taken back
 
--- lines of document 02's slip 5, with room for a row for each token
+-- lines for document 02's slip 5, with room for a row for each token
 abbrev taken_back_lines : List LineCase
 taken_back_lines =
     -- `name=O'Brien,edition=3,second=O'Neill]`: the edition is part of the name
@@ -406,6 +406,17 @@ taken_back_lines =
     }
     ∷ []
 
-pub taken-back-hold : map computed (map marked_line taken_back_lines) ≡ map marked_line taken_back_lines
+-- the four numbers of the answer: the refusal, rows, tokens consumed and commas taken back
+abbrev pub answered : LineCase → List ℕ
+answered c =
+    let a = attr-list-reading.answer_of (attr-list-reading.reading token-line.most_tokens c.entry (token-line.line_of c.kinds (text_of c.lexemes) (pairs_from 0 c.lexemes)) c.room) in
+    attr-list-reading.refusal_of a ∷ attr-list-reading.rows_of a ∷ attr-list-reading.consumed_of a ∷ attr-list-reading.rejoined_of a ∷ []
+
+abbrev answers : List (List ℕ)
+answers =
+    (0 ∷ 1 ∷ 16 ∷ 2 ∷ []) ∷ (0 ∷ 2 ∷ 19 ∷ 2 ∷ []) ∷ (0 ∷ 2 ∷ 7 ∷ 1 ∷ []) ∷ (0 ∷ 1 ∷ 6 ∷ 0 ∷ []) ∷ (0 ∷ 0 ∷ 1 ∷ 0 ∷ []) ∷ (0 ∷ 2 ∷ 10 ∷ 1 ∷ [])
+    ∷ (0 ∷ 1 ∷ 6 ∷ 0 ∷ []) ∷ (8 ∷ 0 ∷ 0 ∷ 0 ∷ []) ∷ []
+
+pub taken-back-hold : (map computed (map marked_line taken_back_lines) ≡ map marked_line taken_back_lines) × (map answered taken_back_lines ≡ answers)
 unfolding text_of pairs_from token-line.token_at token-line.tokens token-line.some_over token-line.misplaced token-line.refusal runs-run.without runs-run.up_to runs-run.onward runs-run.last_of runs-run.front runs-run.kept runs-run.trim_start runs-run.leave runs-run.trim_end runs-run.trim runs-run.quote_mark runs-run.quoted runs-run.inside runs-run.unquote runs-run.run_of runs-names.bytes runs-names.same_bytes delimiters-count.counted delimiters-delimit.start delimiters-delimit.at_comma delimiters-delimit.rejoin delimiters-delimit.rejoin_times delimiters-delimit.rejoin_to delimiters-delimit.note delimiters-delimit.at_quote delimiters-delimit.step delimiters-delimit.after delimiters-delimit.dividing delimiters-delimit.rejoined delimiters-delimit.parted delimiters-delimit.attributes closing-closing.last_bracket closing-closing.unescaped closing-closing.next_bracket closing-link.turn closing-link.look_from closing-link.link_macro attr-ir-look.symbol_sight attr-ir-look.sight attr-ir-look.look attr-ir-ir.name_tokens attr-ir-ir.value attr-ir-ir.value_mark attr-ir-ir.value_tokens attr-ir-ir.name_of attr-ir-ir.named_ir attr-ir-ir.key_value_ir attr-ir-ir.ir_as attr-ir-ir.attr_ir put-rows-rows.pieces put-rows-rows.shorthand_read put-rows-rows.later_groups put-rows-rows.groups put-rows-rows.group_rows put-rows-rows.id_read attribute-attribute.cut_read attribute-attribute.ir_read attribute-attribute.reading attribute-attribute.attribute_in attribute-attribute.attribute list-rows-list-rows.rows_from closing-closing.last_begins attr-list-reading.lent_refusal attr-list-reading.reading customize-subs-customizing.meta_answer customize-subs-customizing.meta_refusal customize-subs-customizing.meta_of customize-subs-customizing.start_of customize-subs-customizing.through customize-subs-customizing.stepped customize-subs-customizing.name_of customize-subs-customizing.strategy_of customize-subs-customizing.entered customize-subs-text.modified customize-subs-text.spaced customize-subs-text.back customize-subs-text.blank customize-subs-text.front customize-subs-text.split customize-subs-text.on_first subs-names-names.lookup_of subs-names-names.same substitutions-moves.answer substitutions-moves.refusal_of substitutions-moves.prepend_of substitutions-moves.remove_of substitutions-moves.insert_of substitutions-moves.led substitutions-moves.without substitutions-moves.filled substitutions-held.sound substitutions-held.held substitutions-held.spares substitutions-held.spare substitutions-held.covered substitutions-held.once substitutions-held.packed substitutions-held.empty substitutions-held.small substitutions-held.times substitutions-kinds.sum substitutions-kinds.each substitutions-kinds.flagged
-taken-back-hold = refl
+taken-back-hold = (refl, refl)

@@ -1,5 +1,5 @@
--- `find_delimiters` gives the definition's count and dividing commas. Each turn of its token loop is the definition's step; the loop that rejoins keeps
--- what is so once no more than `remain` stretches are left. Assumes nothing.
+-- `find_delimiters` gives the definition's count, its dividing commas and how many were taken back. Each turn of its token loop is the definition's
+-- step; the loop that rejoins keeps what is so once no more than `remain` stretches are left. Assumes nothing.
 use Prim.Native.Nat.{◌+◌, ◌-◌, min}
 use mathlib.Core.Path.{◌≡◌}
 use lib.ListN.{length}

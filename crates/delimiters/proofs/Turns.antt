@@ -84,6 +84,13 @@ going-all {kinds} {lent} {cs} n b i {remain} {d} {s} e w = subst (λ (x : Option
 pub going-few : {kinds lent cs : List ℕ} (n b r i : ℕ) {remain d s : Option ℕ} → remain ≡ Some r → Going kinds lent cs (left_of n remain) (back_of n b remain) d s i → Going kinds lent cs (min n r) (b + (n - r)) d s i
 going-few {kinds} {lent} {cs} n b r i {remain} {d} {s} e w = subst (λ (x : Option ℕ). Going kinds lent cs (left_of n x) (back_of n b x) d s i) e w
 
+-- a turn of the loop that rejoins: one stretch fewer is there, and one more was rejoined
+pub going-back : {kinds lent cs : List ℕ} (n b r i : ℕ) {d s : Option ℕ} → r < n → Going kinds lent cs (min n r) (b + (n - r)) d s i → Going kinds lent cs (min (n - 1) r) (b + 1 + (n - 1 - r)) d s i
+going-back {kinds} {lent} {cs} n b r i {d} {s} lt w =
+    let e : min (n - 1) r ≡ min n r = min-eq_right (omega arith) ∙ sym (min-eq_right (omega arith)) in
+    let f : b + 1 + (n - 1 - r) ≡ b + (n - r) = omega arith in
+    rw (e, f) w
+
 -- what is noted once the definition's step has put m for the kind q
 noted-put : (q r : Quote) (m : ℕ) (g : Quote → Option ℕ) (f : Quote → ℕ) → Noted (g q) m → Noted (g (other_quote q)) (f (other_quote q)) → Noted (g r) (put q m f r)
 noted-put double double m g f h k = h

@@ -3,10 +3,10 @@
 use native.Mathlib.Omega.{arith}
 use mathlib.Core.Path.{◌≡◌, sym, ◌∙◌}
 use mathlib.Core.Logic.{inl, inr}
-use Rattle.std.proofs.Common.{rules}
+use Rattle.std.proofs.Common.{rules, ◌+◌}
 use Rattle.std.proofs.lemmas.List.{get_or-take, length-take}
 use Rattle.token.proofs.Matched.{matched}
-use Rattle.delimiters.proofs.Turns.{going_start, within, going-moved, going-all, going-few, going-comma, going-double, going-single, going-other, found}
+use Rattle.delimiters.proofs.Turns.{going_start, within, going-moved, going-all, going-few, going-back, going-comma, going-double, going-single, going-other, found}
 use Rattle.delimiters.proofs.find_delimiters.Goals as goal
 use Rattle.delimiters.proofs.find_delimiters.Goals.{in-Ok-Comma, in-Ok-DoubleQuote, in-Ok-SingleQuote, in_default, in_default-2, else-tokens-test, then-tokens-test+in-Ok-CloseBracket}
 
@@ -44,6 +44,11 @@ loop-stretches-init c =
       | in_default w ↦ absurd (search rules)
       | in_default-2 w ↦ absurd (search rules)
     ])
+
+pub loop-stretches-preserved : goal.loop-stretches-preserved
+loop-stretches-preserved c =
+    let at = c.loop-stretches in
+    going-back at.stretches at.rejoined _ (c.tokens.i + 1) c.loop-stretches-test.true at.invariant
 
 pub returns : goal.returns
 returns c =

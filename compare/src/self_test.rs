@@ -1,6 +1,7 @@
 //! The Rust side and the harness's own reading, without the library: the lines on the bench of
-//! document 01, the quote marks and the commas taken back of document 02, whitespace-only runs against the real `Deq`, the
-//! number of held sets, and the harness's own table of refusals. It runs before every comparison.
+//! document 01, the quote marks and the commas taken back of document 02, whitespace-only runs against
+//! the real `Deq`, the number of held sets, and the harness's own table of refusals. It runs before
+//! every comparison.
 
 use crate::check::{Due, expected_move, expected_set};
 use crate::deq::Deq;

@@ -237,19 +237,18 @@ fn exhaustive_lists(more: usize) -> Vec<Piece> {
 
 // ---- random lines
 
+/// Makes a line of so many tokens.
+type Make = fn(&mut LineBuf, &mut Rng, usize);
+
 fn random_lists(seed: u64, share: usize) -> Vec<Piece> {
     let mut pieces = Vec::new();
-    let mut add = |class, seed: u64, lines: usize, longest: usize, all_kinds: bool| {
+    let mut add = |class, seed: u64, lines: usize, longest: usize, make: Make| {
         pieces.push(piece(class, move |worker| {
             let mut rng = Rng::new(seed);
             let mut line = LineBuf::default();
             for turn in 0..lines as u32 {
                 let len = 1 + rng.below(longest);
-                if all_kinds {
-                    any_kinds_line(&mut line, &mut rng, len);
-                } else {
-                    random_line(&mut line, &mut rng, len);
-                }
+                make(&mut line, &mut rng, len);
                 let numbers = if rng.one_in(4) { ROW * len + rng.below(4 * len) } else { room(len, turn) };
                 for entry in ENTRIES {
                     worker.list(entry, line.lent(), numbers, turn)?;
@@ -260,12 +259,14 @@ fn random_lists(seed: u64, share: usize) -> Vec<Piece> {
     };
     for part in 0..share as u64 {
         let seed = seed.wrapping_add(part << 8);
-        add("random lines up to 12 tokens", seed, 40_000, 12, false);
-        add("random lines up to 60 tokens", seed + 1, 12_000, 60, false);
-        add("random lines up to 600 tokens", seed + 2, 500, 600, false);
-        add("random lines up to 4,096 tokens", seed + 3, 60, MOST_TOKENS, false);
-        add("lines over all 51 kinds", seed + 4, 30_000, 16, true);
-        add("long lines over all 51 kinds", seed + 5, 200, 900, true);
+        add("random lines up to 12 tokens", seed, 40_000, 12, random_line);
+        add("random lines up to 60 tokens", seed + 1, 12_000, 60, random_line);
+        add("random lines up to 600 tokens", seed + 2, 500, 600, random_line);
+        add("random lines up to 4,096 tokens", seed + 3, 60, MOST_TOKENS, random_line);
+        add("lines over all 51 kinds", seed + 4, 30_000, 16, any_kinds_line);
+        add("long lines over all 51 kinds", seed + 5, 200, 900, any_kinds_line);
+        add("random lines of commas and quotes", seed + 7, 4_750, 40, commas_and_quotes);
+        add("random lines of commas and quotes", seed + 8, 250, 600, commas_and_quotes);
     }
     for part in 0..share as u64 {
         let seed = seed.wrapping_add(6 + (part << 8));
@@ -278,22 +279,6 @@ fn random_lists(seed: u64, share: usize) -> Vec<Piece> {
                 let for_rust = spoil_utf8(&mut line, &mut rng);
                 for entry in ENTRIES {
                     worker.list_for(entry, line.lent(), &for_rust, room(len, turn), turn)?;
-                }
-            }
-            Ok(())
-        }));
-    }
-    for part in 0..share as u64 {
-        let seed = seed.wrapping_add(7 + (part << 8));
-        pieces.push(piece("random lines of commas and quotes", move |worker| {
-            let mut rng = Rng::new(seed);
-            let mut line = LineBuf::default();
-            for turn in 0..5_000 {
-                let longest = if rng.one_in(20) { 600 } else { 40 };
-                let len = 1 + rng.below(longest);
-                commas_and_quotes(&mut line, &mut rng, len);
-                for entry in ENTRIES {
-                    worker.list(entry, line.lent(), room(len, turn), turn)?;
                 }
             }
             Ok(())

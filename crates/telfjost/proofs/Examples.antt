@@ -175,8 +175,11 @@ pub record Marked : Type 0 where
   pub gives : Given
 
 -- what the definitions give
+abbrev pub reading_of : LineCase → attr-list-reading.Reading
+reading_of c = attr-list-reading.reading token-line.most_tokens c.entry (token-line.line_of c.kinds (text_of c.lexemes) (pairs_from 0 c.lexemes)) c.room
+
 abbrev pub gives : Put → Given
-gives (line c) = rows (attr-list-reading.reading token-line.most_tokens c.entry (token-line.line_of c.kinds (text_of c.lexemes) (pairs_from 0 c.lexemes)) c.room)
+gives (line c) = rows (reading_of c)
 gives (subs c) = answer (customize-subs-customizing.meta_answer c.mode c.given true c.text)
 
 -- what is due: of a line the rows, tokens consumed and commas taken back; of a subs text the set, and no refusal
@@ -409,7 +412,7 @@ taken_back_lines =
 -- the four numbers of the answer: the refusal, rows, tokens consumed and commas taken back
 abbrev pub answered : LineCase → List ℕ
 answered c =
-    let a = attr-list-reading.answer_of (attr-list-reading.reading token-line.most_tokens c.entry (token-line.line_of c.kinds (text_of c.lexemes) (pairs_from 0 c.lexemes)) c.room) in
+    let a = attr-list-reading.answer_of (reading_of c) in
     attr-list-reading.refusal_of a ∷ attr-list-reading.rows_of a ∷ attr-list-reading.consumed_of a ∷ attr-list-reading.rejoined_of a ∷ []
 
 abbrev answers : List (List ℕ)

@@ -2,8 +2,8 @@
  * Random and damaged calls of every exported function, for a memory checker. Each buffer is
  * allocated with exactly the size that the call names, so that one byte too far is seen; the row
  * buffer is not set beforehand in half of the calls, so that reading it is seen too. Looks also at
- * what every answer must keep: the refusal is of the table, a refused call leaves the row buffer
- * and the set, no number behind the rows changes, every row has a tag, runs in the line and a quote
+ * what every answer must keep: the refusal is of the table, 2 is given exactly where the reader's
+ * limit of tokens is passed, a refused call leaves the row buffer and the set, no number behind the rows changes, every row has a tag, runs in the line and a quote
  * mark that its tag may have, and no more commas are taken back than are counted.
  *
  *   memory CALLS SEED
@@ -14,7 +14,7 @@
 #include <stdlib.h>
 #include <string.h>
 
-enum { ROW = 6, CLOSE_BRACKET = 10, COMMA = 13, OPEN_BRACKET = 34 };
+enum { ROW = 6, CLOSE_BRACKET = 10, COMMA = 13, OPEN_BRACKET = 34, VIEWER_TOKENS = 256 };
 
 static uint64_t state;
 
@@ -54,6 +54,7 @@ static size_t some_length(void) {
     case 1: return 4097;
     case 2: return below(4096);
     case 3: return 0;
+    case 4: return VIEWER_TOKENS - 2 + below(5);
     default: return 1 + below(40);
     }
 }
@@ -130,11 +131,20 @@ static void damage(struct line *l) {
 typedef telfjost_list reading(const uint8_t *, size_t, const uint8_t *, size_t, const uint32_t *,
                               size_t, uint32_t *, size_t);
 
-static reading *const readings[] = {
-    telfjost_block_attr_list,
-    telfjost_block_macro_attr_list,
-    telfjost_inline_macro_attr_list,
-    telfjost_link_macro_attr_list,
+/* the main reader's first, then the viewer's */
+static reading *const readings[2][4] = {
+    {
+        telfjost_block_attr_list,
+        telfjost_block_macro_attr_list,
+        telfjost_inline_macro_attr_list,
+        telfjost_link_macro_attr_list,
+    },
+    {
+        telfjost_viewer_block_attr_list,
+        telfjost_viewer_block_macro_attr_list,
+        telfjost_viewer_inline_macro_attr_list,
+        telfjost_viewer_link_macro_attr_list,
+    },
 };
 
 static unsigned long long read_calls, refused_calls;
@@ -173,10 +183,13 @@ static void one_list(void) {
         for (size_t i = 0; i < room; i++)
             rows[i] = before[i] = below(0xffffffffu);
     }
-    telfjost_list a = readings[below(4)](l.kinds, l.tokens, l.text, l.bytes, l.pairs, l.numbers,
-                                         rows, room);
+    bool viewer = below(2);
+    telfjost_list a = readings[viewer][below(4)](l.kinds, l.tokens, l.text, l.bytes, l.pairs,
+                                                 l.numbers, rows, room);
     if (a.refusal > 8)
         wrong("no such refusal");
+    if (l.tokens != 0 && (a.refusal == 2) != (l.tokens > (viewer ? VIEWER_TOKENS : 4096)))
+        wrong("2 for another limit");
     if (a.refusal != 0 && (a.rows != 0 || a.consumed != 0 || a.rejoined != 0))
         wrong("a refusal with rows, tokens or commas");
     size_t written = ROW * a.rows;

@@ -22,7 +22,7 @@
  *
  * A refusal is 0 where a call is answered, else the first of these that applies:
  *   1  no tokens
- *   2  over 4,096 tokens
+ *   2  over 4,096 tokens; by the viewer's functions over 256
  *   3  the text is over 65,535 bytes
  *   4  not two numbers in `pairs` for each kind
  *   5  some kind is over 50
@@ -132,6 +132,30 @@ telfjost_list telfjost_link_macro_attr_list(const uint8_t *kinds, size_t kinds_l
                                             const uint8_t *text, size_t text_len,
                                             const uint32_t *pairs, size_t pairs_len,
                                             uint32_t *rows, size_t rows_len);
+
+/*
+ * The small viewer's: the four readings for lines of at most 256 tokens, in less memory. A line of
+ * more is refused with 2, whatever else is wrong with it. Of any other line each function answers,
+ * refuses and writes what the one above does whose name it has behind `viewer_`. A call takes
+ * under 2,048 bytes of stack, where one above takes 8,192 and more for a line of over 256 tokens
+ * (docs/VIEWER.md).
+ */
+telfjost_list telfjost_viewer_block_attr_list(const uint8_t *kinds, size_t kinds_len,
+                                              const uint8_t *text, size_t text_len,
+                                              const uint32_t *pairs, size_t pairs_len,
+                                              uint32_t *rows, size_t rows_len);
+telfjost_list telfjost_viewer_block_macro_attr_list(const uint8_t *kinds, size_t kinds_len,
+                                                    const uint8_t *text, size_t text_len,
+                                                    const uint32_t *pairs, size_t pairs_len,
+                                                    uint32_t *rows, size_t rows_len);
+telfjost_list telfjost_viewer_inline_macro_attr_list(const uint8_t *kinds, size_t kinds_len,
+                                                     const uint8_t *text, size_t text_len,
+                                                     const uint32_t *pairs, size_t pairs_len,
+                                                     uint32_t *rows, size_t rows_len);
+telfjost_list telfjost_viewer_link_macro_attr_list(const uint8_t *kinds, size_t kinds_len,
+                                                   const uint8_t *text, size_t text_len,
+                                                   const uint32_t *pairs, size_t pairs_len,
+                                                   uint32_t *rows, size_t rows_len);
 
 /*
  * A substitution set: seven places, in the order in which the substitutions are applied, and a flag

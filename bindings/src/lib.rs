@@ -44,6 +44,6 @@ mod sys;
 
 pub use kind::Kind;
 pub use line::{Lent, Line, Run, Text};
-pub use list::{Diagnostic, Entry, List, Quotes, Reader, Row};
+pub use list::{Diagnostic, Entry, Limit, List, Quotes, Reader, Row};
 pub use refusal::Refusal;
 pub use subs::{Set, Sub};

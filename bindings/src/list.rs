@@ -7,9 +7,6 @@ use crate::{Lent, Refusal, Run, Text};
 /// How many numbers a row has.
 const ROW: usize = 6;
 
-/// Past so many tokens a line is refused (2) whatever the room.
-const MOST_TOKENS: usize = 4096;
-
 /// One row: what the reader says of a line.
 #[derive(Debug, Clone, Copy, PartialEq, Eq, Hash)]
 pub enum Row {
@@ -294,7 +291,40 @@ pub enum Entry {
     LinkMacro,
 }
 
-/// A row buffer that is used again from line to line. It grows to what a line needs.
+/// Up to how many tokens a line is read. Of a line that is within both limits all entries answer the
+/// same.
+#[derive(Debug, Clone, Copy, PartialEq, Eq, Hash, Default)]
+pub enum Limit {
+    /// The main reader's: 4,096.
+    #[default]
+    Main,
+    /// The small viewer's: 256. A call takes under 2,048 bytes of stack (docs/VIEWER.md).
+    Viewer,
+}
+
+impl Limit {
+    /// How many tokens a line may have; one of more is refused with [`Refusal::TooManyTokens`].
+    ///
+    /// ```
+    /// use telfjost::Limit;
+    /// assert_eq!((Limit::Main.tokens(), Limit::Viewer.tokens()), (4096, 256));
+    /// ```
+    pub const fn tokens(self) -> usize {
+        match self {
+            Limit::Main => 4096,
+            Limit::Viewer => 256,
+        }
+    }
+
+    /// How many numbers the rows of a line may need. One of too many tokens is refused whatever the
+    /// room.
+    fn room(self, line: Lent<'_>) -> usize {
+        ROW * line.tokens().min(self.tokens())
+    }
+}
+
+/// A row buffer that is used again from line to line. It grows to what a line needs, up to the
+/// reader's limit.
 ///
 /// ```
 /// use telfjost::{Entry, Kind, Line, Reader};
@@ -311,23 +341,39 @@ pub enum Entry {
 /// ```
 #[derive(Debug, Clone, Default)]
 pub struct Reader {
+    limit: Limit,
     rows: Vec<u32>,
 }
 
 impl Reader {
-    /// A reader with no room yet.
+    /// The main reader, with no room yet.
     pub fn new() -> Reader {
         Reader::default()
+    }
+
+    /// A reader of lines up to a limit, with no room yet.
+    ///
+    /// ```
+    /// use telfjost::{Entry, Kind, Limit, Line, Reader, Refusal};
+    ///
+    /// let line: Line = [(Kind::Comma, ","); 256].into_iter().chain([(Kind::CloseBracket, "]")]).collect();
+    /// let mut viewer = Reader::with_limit(Limit::Viewer);
+    /// assert_eq!(viewer.read(Entry::Block, &line), Err(Refusal::TooManyTokens));
+    /// assert_eq!(Reader::new().read(Entry::Block, &line)?.rows().len(), 257);
+    /// # Ok::<(), Refusal>(())
+    /// ```
+    pub fn with_limit(limit: Limit) -> Reader {
+        Reader { limit, rows: Vec::new() }
     }
 
     /// Reads a line; the answer borrows the rows from this reader.
     pub fn read<'l>(&'l mut self, entry: Entry, line: impl Into<Lent<'l>>) -> Result<List<'l>, Refusal> {
         let line = line.into();
-        let room = ROW * line.tokens().min(MOST_TOKENS);
+        let room = self.limit.room(line);
         if self.rows.len() < room {
             self.rows.resize(room, 0);
         }
-        let answer = sys::read(entry, line, &mut self.rows);
+        let answer = sys::read(self.limit, entry, line, &mut self.rows);
         Refusal::check(answer.refusal)?;
         let numbers = &self.rows[..ROW * answer.rows];
         Ok(List {
@@ -343,8 +389,13 @@ impl<'l> Lent<'l> {
     /// Reads the line by one of the four entries. The text begins after the opening bracket.
     /// A [`Reader`] does the same with a buffer that is used again.
     pub fn read(&self, entry: Entry) -> Result<List<'l>, Refusal> {
-        let mut rows = vec![0; ROW * self.tokens().min(MOST_TOKENS)];
-        let answer = sys::read(entry, *self, &mut rows);
+        self.read_within(Limit::Main, entry)
+    }
+
+    /// Reads the line by one of the four entries, if it has no more tokens than the limit.
+    pub fn read_within(&self, limit: Limit, entry: Entry) -> Result<List<'l>, Refusal> {
+        let mut rows = vec![0; limit.room(*self)];
+        let answer = sys::read(limit, entry, *self, &mut rows);
         Refusal::check(answer.refusal)?;
         rows.truncate(ROW * answer.rows);
         Ok(List {

@@ -4,7 +4,7 @@
 //! `&mut` slice, so that nothing else that is lent overlaps it; the library keeps no pointer.
 #![allow(unsafe_code)]
 
-use crate::{Entry, Lent, Set, Sub};
+use crate::{Entry, Lent, Limit, Set, Sub};
 
 #[repr(C)]
 pub struct Bool {
@@ -164,15 +164,23 @@ lists! {
     telfjost_block_macro_attr_list
     telfjost_inline_macro_attr_list
     telfjost_link_macro_attr_list
+    telfjost_viewer_block_attr_list
+    telfjost_viewer_block_macro_attr_list
+    telfjost_viewer_inline_macro_attr_list
+    telfjost_viewer_link_macro_attr_list
 }
 
-pub fn read(entry: Entry, line: Lent<'_>, rows: &mut [u32]) -> ListAnswer {
+pub fn read(limit: Limit, entry: Entry, line: Lent<'_>, rows: &mut [u32]) -> ListAnswer {
     let Lent { kinds, text, pairs } = line;
-    let called = match entry {
-        Entry::Block => telfjost_block_attr_list,
-        Entry::BlockMacro => telfjost_block_macro_attr_list,
-        Entry::InlineMacro => telfjost_inline_macro_attr_list,
-        Entry::LinkMacro => telfjost_link_macro_attr_list,
+    let called = match (limit, entry) {
+        (Limit::Main, Entry::Block) => telfjost_block_attr_list,
+        (Limit::Main, Entry::BlockMacro) => telfjost_block_macro_attr_list,
+        (Limit::Main, Entry::InlineMacro) => telfjost_inline_macro_attr_list,
+        (Limit::Main, Entry::LinkMacro) => telfjost_link_macro_attr_list,
+        (Limit::Viewer, Entry::Block) => telfjost_viewer_block_attr_list,
+        (Limit::Viewer, Entry::BlockMacro) => telfjost_viewer_block_macro_attr_list,
+        (Limit::Viewer, Entry::InlineMacro) => telfjost_viewer_inline_macro_attr_list,
+        (Limit::Viewer, Entry::LinkMacro) => telfjost_viewer_link_macro_attr_list,
     };
     // SAFETY: see above.
     unsafe {

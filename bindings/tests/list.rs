@@ -1,6 +1,6 @@
 //! The four readings: lines and their rows, the bounds, and the iterators.
 
-use telfjost::{Diagnostic, Entry, Kind, Lent, Line, Quotes, Reader, Refusal, Row, Run};
+use telfjost::{Diagnostic, Entry, Kind, Lent, Limit, Line, Quotes, Reader, Refusal, Row, Run};
 
 /// Each mark is one token; `...` and `==` too.
 fn line(text: &str) -> Line {
@@ -59,7 +59,8 @@ fn reads(cases: &[(Entry, &str, &[Row], usize)]) {
         let list = line.lent().read(*entry).unwrap_or_else(|refusal| panic!("{text}: {refusal}"));
         assert_eq!(list.rows().collect::<Vec<_>>(), *rows, "{entry:?} {text}");
         assert_eq!(list.consumed(), *consumed, "{entry:?} {text}");
-        assert_eq!(reader.read(*entry, &line), Ok(list), "{entry:?} {text}");
+        assert_eq!(reader.read(*entry, &line), Ok(list.clone()), "{entry:?} {text}");
+        assert_eq!(line.lent().read_within(Limit::Viewer, *entry), Ok(list), "viewer, {entry:?} {text}");
     }
 }
 
@@ -176,6 +177,30 @@ fn the_longest_line_and_one_more() {
     let more = commas(4096);
     assert_eq!(reader.read(Entry::Block, &more), Err(Refusal::TooManyTokens));
     assert_eq!(more.lent().read(Entry::Block), Err(Refusal::TooManyTokens));
+}
+
+#[test]
+fn the_longest_line_of_the_viewer_and_one_more() {
+    let commas = |n: usize| -> Line {
+        (0..n).map(|_| (Kind::Comma, ",")).chain([(Kind::CloseBracket, "]")]).collect()
+    };
+    for entry in [Entry::Block, Entry::BlockMacro, Entry::InlineMacro, Entry::LinkMacro] {
+        let mut viewer = Reader::with_limit(Limit::Viewer);
+        let longest = commas(255);
+        let given = longest.lent().read(entry);
+        assert!(given.is_ok(), "{entry:?}");
+        assert_eq!(viewer.read(entry, &longest), given, "{entry:?}");
+        let more = commas(256);
+        assert!(more.lent().read(entry).is_ok(), "{entry:?}");
+        assert_eq!(viewer.read(entry, &more), Err(Refusal::TooManyTokens), "{entry:?}");
+        // 2 comes before what else is wrong with a line, and 1 before 2
+        let mut closed_by_none = commas(256);
+        closed_by_none.push(Kind::Word, "a");
+        assert_eq!(viewer.read(entry, &closed_by_none), Err(Refusal::TooManyTokens), "{entry:?}");
+        assert_eq!(viewer.read(entry, Lent { kinds: &[51; 257], text: &[], pairs: &[] }), Err(Refusal::TooManyTokens));
+        assert_eq!(viewer.read(entry, Lent { kinds: &[51; 256], text: &[], pairs: &[0; 512] }), Err(Refusal::KindTooLarge));
+        assert_eq!(viewer.read(entry, &Line::new()), Err(Refusal::NoTokens), "{entry:?}");
+    }
 }
 
 #[test]

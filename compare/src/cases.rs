@@ -5,7 +5,7 @@ use crate::check::{Checked, SUBS_NAMES, Worker};
 use crate::lines::{
     HALVES, LineBuf, SIGNIFICANT, Tok, any_kinds_line, commas_and_quotes, random_line, spoil_utf8,
 };
-use crate::model::{self, MOST_BYTES, MOST_TOKENS};
+use crate::model::{self, MOST_BYTES, MOST_TOKENS, VIEWER_TOKENS};
 use crate::rng::Rng;
 use crate::rust_side::{ENTRIES, Entry, MODES, MOVES, Mode, NO_SUBS, NORMAL, ROW, Set};
 use crate::token::TokenKind::*;
@@ -240,14 +240,23 @@ fn exhaustive_lists(more: usize) -> Vec<Piece> {
 /// Makes a line of so many tokens.
 type Make = fn(&mut LineBuf, &mut Rng, usize);
 
+/// The lengths from the first number to the second.
+type Lengths = (usize, usize);
+
+fn some_length(rng: &mut Rng, (from, to): Lengths) -> usize {
+    from + rng.below(to + 1 - from)
+}
+
+const AT_THE_VIEWERS_LIMIT: Lengths = (VIEWER_TOKENS - 2, VIEWER_TOKENS + 2);
+
 fn random_lists(seed: u64, share: usize) -> Vec<Piece> {
     let mut pieces = Vec::new();
-    let mut add = |class, seed: u64, lines: usize, longest: usize, make: Make| {
+    let mut add = |class, seed: u64, lines: usize, lengths: Lengths, make: Make| {
         pieces.push(piece(class, move |worker| {
             let mut rng = Rng::new(seed);
             let mut line = LineBuf::default();
             for turn in 0..lines as u32 {
-                let len = 1 + rng.below(longest);
+                let len = some_length(&mut rng, lengths);
                 make(&mut line, &mut rng, len);
                 let numbers = if rng.one_in(4) { ROW * len + rng.below(4 * len) } else { room(len, turn) };
                 for entry in ENTRIES {
@@ -259,14 +268,18 @@ fn random_lists(seed: u64, share: usize) -> Vec<Piece> {
     };
     for part in 0..share as u64 {
         let seed = seed.wrapping_add(part << 8);
-        add("random lines up to 12 tokens", seed, 40_000, 12, random_line);
-        add("random lines up to 60 tokens", seed + 1, 12_000, 60, random_line);
-        add("random lines up to 600 tokens", seed + 2, 500, 600, random_line);
-        add("random lines up to 4,096 tokens", seed + 3, 60, MOST_TOKENS, random_line);
-        add("lines over all 51 kinds", seed + 4, 30_000, 16, any_kinds_line);
-        add("long lines over all 51 kinds", seed + 5, 200, 900, any_kinds_line);
-        add("random lines of commas and quotes", seed + 7, 4_750, 40, commas_and_quotes);
-        add("random lines of commas and quotes", seed + 8, 250, 600, commas_and_quotes);
+        add("random lines up to 12 tokens", seed, 40_000, (1, 12), random_line);
+        add("random lines up to 60 tokens", seed + 1, 12_000, (1, 60), random_line);
+        add("random lines up to 600 tokens", seed + 2, 500, (1, 600), random_line);
+        add("random lines up to 4,096 tokens", seed + 3, 60, (1, MOST_TOKENS), random_line);
+        add("lines over all 51 kinds", seed + 4, 30_000, (1, 16), any_kinds_line);
+        add("long lines over all 51 kinds", seed + 5, 200, (1, 900), any_kinds_line);
+        add("random lines of commas and quotes", seed + 7, 4_750, (1, 40), commas_and_quotes);
+        add("random lines of commas and quotes", seed + 8, 250, (1, 600), commas_and_quotes);
+        let class = "random lines of 254 to 258 tokens";
+        add(class, seed + 13, 300, AT_THE_VIEWERS_LIMIT, random_line);
+        add(class, seed + 14, 150, AT_THE_VIEWERS_LIMIT, any_kinds_line);
+        add(class, seed + 15, 150, AT_THE_VIEWERS_LIMIT, commas_and_quotes);
     }
     for part in 0..share as u64 {
         let seed = seed.wrapping_add(6 + (part << 8));
@@ -287,7 +300,7 @@ fn random_lists(seed: u64, share: usize) -> Vec<Piece> {
     pieces
 }
 
-/// Lines at the limits: 4,096 tokens of one kind or of hard mixes, 65,535 bytes.
+/// Lines at the limits: 4,096 tokens of one kind or of hard mixes, 256 for the viewer, 65,535 bytes.
 fn limits() -> Vec<Piece> {
     let mixes: [&'static [Tok]; 14] = [
         &[A],
@@ -309,7 +322,8 @@ fn limits() -> Vec<Piece> {
         .into_iter()
         .map(|mix| {
             piece("lines at the limits", move |worker| {
-                for len in [MOST_TOKENS - 1, MOST_TOKENS, MOST_TOKENS + 1] {
+                let lengths = [VIEWER_TOKENS, MOST_TOKENS].map(|most| [most - 1, most, most + 1]);
+                for &len in lengths.as_flattened() {
                     for bytes in [0, MOST_BYTES - 1, MOST_BYTES, MOST_BYTES + 1] {
                         let mut line = LineBuf::default();
                         for place in 0..len - 1 {
@@ -404,39 +418,53 @@ fn damage(line: &mut LineBuf, rng: &mut Rng, fault: usize, numbers: &mut Option<
     }
 }
 
+/// Random lines, of the lengths that `length` picks, with one to three faults each.
+fn damaged_lines(
+    class: &'static str,
+    seed: u64,
+    lines: u32,
+    length: impl Fn(&mut Rng) -> usize + Send + Sync + 'static,
+) -> Piece {
+    piece(class, move |worker| {
+        let mut rng = Rng::new(seed);
+        let mut line = LineBuf::default();
+        for turn in 0..lines {
+            let len = length(&mut rng);
+            random_line(&mut line, &mut rng, len);
+            let mut numbers = None;
+            for _ in 0..1 + rng.below(3) {
+                // Long texts and many tokens are dear, and few tell as much as many.
+                let fault = match 1 + rng.below(8) {
+                    fault @ (2 | 3) if !rng.one_in(40) => fault + 2,
+                    fault => fault,
+                };
+                damage(&mut line, &mut rng, fault, &mut numbers);
+            }
+            let numbers = numbers.unwrap_or(ROW * line.kinds.len() + rng.below(3));
+            // Damage may put a lexeme into a gap or inside a character.
+            let for_rust: Vec<u8> =
+                line.text.iter().map(|b| if b.is_ascii() { *b } else { b'Z' }).collect();
+            for entry in ENTRIES {
+                worker.list_for(entry, line.lent(), &for_rust, numbers, turn)?;
+            }
+            let line = LineBuf { text: for_rust, ..std::mem::take(&mut line) };
+            worker.is_block_attr_list(line.lent())?;
+        }
+        Ok(())
+    })
+}
+
 fn damaged(seed: u64, share: usize) -> Vec<Piece> {
-    (0..share as u64)
-        .map(|part| {
-            let seed = seed.wrapping_add(7 + (part << 8));
-            piece("damaged lines, one to three faults", move |worker| {
-                let mut rng = Rng::new(seed);
-                let mut line = LineBuf::default();
-                for turn in 0..20_000 {
-                    let len = if rng.one_in(400) { MOST_TOKENS } else { 1 + rng.below(10) };
-                    random_line(&mut line, &mut rng, len);
-                    let mut numbers = None;
-                    for _ in 0..1 + rng.below(3) {
-                        // Long texts and many tokens are dear, and few tell as much as many.
-                        let fault = match 1 + rng.below(8) {
-                            fault @ (2 | 3) if !rng.one_in(40) => fault + 2,
-                            fault => fault,
-                        };
-                        damage(&mut line, &mut rng, fault, &mut numbers);
-                    }
-                    let numbers = numbers.unwrap_or(ROW * line.kinds.len() + rng.below(3));
-                    // Damage may put a lexeme into a gap or inside a character.
-                    let for_rust: Vec<u8> =
-                        line.text.iter().map(|b| if b.is_ascii() { *b } else { b'Z' }).collect();
-                    for entry in ENTRIES {
-                        worker.list_for(entry, line.lent(), &for_rust, numbers, turn)?;
-                    }
-                    let line = LineBuf { text: for_rust, ..std::mem::take(&mut line) };
-                    worker.is_block_attr_list(line.lent())?;
-                }
-                Ok(())
-            })
-        })
-        .collect()
+    let mut pieces = Vec::new();
+    for part in 0..share as u64 {
+        let seed = seed.wrapping_add(7 + (part << 8));
+        pieces.push(damaged_lines("damaged lines, one to three faults", seed, 20_000, |rng| {
+            if rng.one_in(400) { MOST_TOKENS } else { 1 + rng.below(10) }
+        }));
+        let class = "damaged lines of 254 to 258 tokens";
+        pieces.push(damaged_lines(class, seed + 9, 1_500, |rng| some_length(rng, AT_THE_VIEWERS_LIMIT)));
+    }
+    pieces
 }
 
 // ---- is_block_attr_list

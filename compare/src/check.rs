@@ -3,8 +3,8 @@
 use std::collections::BTreeMap;
 use std::fmt::Write as _;
 
-use crate::library::{Bool, Library, List, SetAnswer};
-use crate::model;
+use crate::library::{Bool, Library, List, Reader, SetAnswer};
+use crate::model::{self, MOST_TOKENS, VIEWER_TOKENS};
 use crate::numbers::{MARKED, Row, Unmarked};
 use crate::reading::{Reading, commas_inside};
 use crate::rust_side::{self, Entry, KINDS, Lent, Mode, Move, Outcome, ROW, STARTS, Set};
@@ -29,8 +29,18 @@ pub struct Tally {
     pub moves: [u64; 6],
     pub yes: u64,
     pub other_closing: u64,
+    /// Lines read by the viewer too, by what is due of it: see `VIEWED`.
+    pub viewed: [u64; 4],
     pub panics: BTreeMap<String, u64>,
 }
+
+/// What is due of the viewer, in the order of `Tally::viewed`.
+pub const VIEWED: [&str; 4] = [
+    "the main reader's answer",
+    "2, as the main reader",
+    "2 where the main reader reads",
+    "2 where the main reader refuses with 3 to 8",
+];
 
 /// What a move did, in the order of `Tally::moves`.
 pub const MOVED: [&str; 6] = [
@@ -57,6 +67,7 @@ impl Tally {
             (&mut self.diagnostics[..], &other.diagnostics[..]),
             (&mut self.taken_back[..], &other.taken_back[..]),
             (&mut self.moves[..], &other.moves[..]),
+            (&mut self.viewed[..], &other.viewed[..]),
         ];
         for (mine, theirs) in pairs {
             for (a, b) in mine.iter_mut().zip(theirs) {
@@ -133,6 +144,10 @@ pub struct Worker<'l> {
     buffer: Vec<u32>,
 }
 
+fn refused(refusal: usize) -> List {
+    List { refusal, rows: 0, consumed: 0, rejoined: 0 }
+}
+
 /// The number that stands in the buffer at `at` before a call.
 fn canary(salt: u32, at: usize) -> u32 {
     (at as u32).wrapping_mul(0x9e37_79b1) ^ salt.wrapping_mul(0x85eb_ca6b)
@@ -156,8 +171,7 @@ impl<'l> Worker<'l> {
         rust_text: &[u8],
         numbers: usize,
     ) -> Result<List, Box<String>> {
-        let refused = |refusal| List { refusal, rows: 0, consumed: 0, rejoined: 0 };
-        let early = match model::line_refusal(line.kinds, line.text, line.pairs) {
+        let early = match model::line_refusal(line.kinds, line.text, line.pairs, MOST_TOKENS) {
             0 => model::room_refusal(line.kinds.len(), numbers),
             refusal => refusal,
         };
@@ -199,15 +213,33 @@ impl<'l> Worker<'l> {
         if !self.library.has_list(entry) {
             return Ok(());
         }
-        let expected = self.expected(entry, line, rust_text, numbers)?;
-        self.buffer.clear();
-        self.buffer.extend((0..numbers + 2 * GUARD).map(|at| canary(salt, at)));
-        let Some(given) =
-            self.library.list(entry, line, &mut self.buffer[GUARD..GUARD + numbers], salt % 2 == 0)
-        else {
-            return Ok(());
+        let of_main = self.expected(entry, line, rust_text, numbers)?;
+        self.count(of_main.refusal);
+        self.count_rows(line, of_main);
+        self.call_list(Reader::Main, entry, line, numbers, salt, of_main)?;
+        let of_viewer = self.of_viewer(line, of_main);
+        self.call_list(Reader::Viewer, entry, line, numbers, salt, of_viewer)
+    }
+
+    /// What is due of the viewer: "up to 256 tokens it answers and refuses as the main reader does,
+    /// more get 2 at that row's place in the order".
+    fn of_viewer(&mut self, line: Lent<'_>, of_main: List) -> List {
+        let over = line.kinds.len() > VIEWER_TOKENS;
+        let as_what = match (over, of_main.refusal) {
+            (false, _) => 0,
+            (true, 2) => 1,
+            (true, 0) => 2,
+            (true, _) => 3,
         };
-        self.count(expected.refusal);
+        self.tally.viewed[as_what] += 1;
+        if !over {
+            return of_main;
+        }
+        self.due.own.clear();
+        refused(model::line_refusal(line.kinds, line.text, line.pairs, VIEWER_TOKENS))
+    }
+
+    fn count_rows(&mut self, line: Lent<'_>, of_main: List) {
         for [tag, _, number, .., mark] in self.due.rows() {
             self.tally.tags[*tag as usize] += 1;
             if *tag == 7 {
@@ -217,11 +249,29 @@ impl<'l> Worker<'l> {
                 self.tally.marks[at][*mark as usize] += 1;
             }
         }
-        if expected.refusal == 0 {
-            let rejoined = expected.rejoined;
+        if of_main.refusal == 0 {
+            let rejoined = of_main.rejoined;
             self.tally.taken_back[rejoined.min(3)] += 1;
             self.tally.crossing += u64::from(rejoined != 0 && rejoined != commas_inside(line));
         }
+    }
+
+    /// One reader's entry, whose answer is due, with the rows of `self.rows()`.
+    fn call_list(
+        &mut self,
+        reader: Reader,
+        entry: Entry,
+        line: Lent<'_>,
+        numbers: usize,
+        salt: u32,
+        expected: List,
+    ) -> Checked {
+        self.buffer.clear();
+        self.buffer.extend((0..numbers + 2 * GUARD).map(|at| canary(salt, at)));
+        let rows = &mut self.buffer[GUARD..GUARD + numbers];
+        let Some(given) = self.library.list(reader, entry, line, rows, salt % 2 == 0) else {
+            return Ok(());
+        };
         if given == expected && self.buffer_is_right(salt) {
             return Ok(());
         }
@@ -232,7 +282,7 @@ impl<'l> Worker<'l> {
             .filter(|(at, number)| **number != canary(salt, *at))
             .map(|(at, number)| (at, *number))
             .collect();
-        let mut words = describe_line(&format!("{entry:?}"), line);
+        let mut words = describe_line(&format!("{reader:?}, {entry:?}"), line);
         let _ = writeln!(words, "row buffer: {numbers} numbers, {} would do", ROW * line.kinds.len());
         let _ = writeln!(words, "due:   {expected:?}, rows {:?}", self.rows());
         let _ = writeln!(
@@ -263,7 +313,7 @@ impl<'l> Worker<'l> {
         let Some(given) = self.library.is_block_attr_list(line, line.kinds.len() % 2 == 0) else {
             return Ok(());
         };
-        let refusal = model::line_refusal(line.kinds, line.text, line.pairs);
+        let refusal = model::line_refusal(line.kinds, line.text, line.pairs, MOST_TOKENS);
         let yes = refusal == 0 && rust_side::is_block_attr_list(line);
         let expected = Bool { refusal, yes: usize::from(yes) };
         self.count(refusal);

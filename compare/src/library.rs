@@ -55,10 +55,20 @@ macro_rules! export {
     }};
 }
 
+/// Whose readings: the main reader's, or the small viewer's.
+#[derive(Debug, Clone, Copy, PartialEq, Eq)]
+pub enum Reader {
+    Main,
+    Viewer,
+}
+
+pub const READERS: [Reader; 2] = [Reader::Main, Reader::Viewer];
+
 /// Where there are two of a kind, port mode stands first and sheet mode second.
 #[derive(Default)]
 pub struct Library {
-    lists: [Option<ListFn>; 4],
+    /// The main reader's, then the viewer's.
+    lists: [[Option<ListFn>; 4]; 2],
     is_block_attr_list: Option<BoolFn>,
     from_meta: [Option<SubsFn>; 2],
     moves: [[Option<MoveFn>; 3]; 2],
@@ -71,10 +81,18 @@ impl Library {
     pub fn linked() -> Self {
         Library {
             lists: [
-                export!("telfjost_block_attr_list", f: ListFn),
-                export!("telfjost_block_macro_attr_list", f: ListFn),
-                export!("telfjost_inline_macro_attr_list", f: ListFn),
-                export!("telfjost_link_macro_attr_list", f: ListFn),
+                [
+                    export!("telfjost_block_attr_list", f: ListFn),
+                    export!("telfjost_block_macro_attr_list", f: ListFn),
+                    export!("telfjost_inline_macro_attr_list", f: ListFn),
+                    export!("telfjost_link_macro_attr_list", f: ListFn),
+                ],
+                [
+                    export!("telfjost_viewer_block_attr_list", f: ListFn),
+                    export!("telfjost_viewer_block_macro_attr_list", f: ListFn),
+                    export!("telfjost_viewer_inline_macro_attr_list", f: ListFn),
+                    export!("telfjost_viewer_link_macro_attr_list", f: ListFn),
+                ],
             ],
             is_block_attr_list: export!("telfjost_is_block_attr_list", f: BoolFn),
             from_meta: [
@@ -120,7 +138,7 @@ impl Library {
 
     /// The names that the harness knows how to compare. The number of each of the first seven
     /// in a recorded call is its place here, counted from 1; the others are not recorded.
-    pub const KNOWN: [&'static str; 22] = [
+    pub const KNOWN: [&'static str; 26] = [
         "telfjost_block_attr_list",
         "telfjost_block_macro_attr_list",
         "telfjost_inline_macro_attr_list",
@@ -143,13 +161,17 @@ impl Library {
         "telfjost_only_special_chars",
         "telfjost_all",
         "telfjost_contains",
+        "telfjost_viewer_block_attr_list",
+        "telfjost_viewer_block_macro_attr_list",
+        "telfjost_viewer_inline_macro_attr_list",
+        "telfjost_viewer_link_macro_attr_list",
     ];
 
     pub fn exports(&self) -> usize {
         fn there<T>(functions: &[Option<T>]) -> usize {
             functions.iter().flatten().count()
         }
-        there(&self.lists)
+        there(self.lists.as_flattened())
             + there(&[self.is_block_attr_list])
             + there(&self.from_meta)
             + there(self.moves.as_flattened())
@@ -159,7 +181,7 @@ impl Library {
     }
 
     pub fn has_list(&self, entry: Entry) -> bool {
-        self.lists[entry as usize].is_some()
+        self.lists.iter().any(|lists| lists[entry as usize].is_some())
     }
 
     pub fn has_is_block_attr_list(&self) -> bool {
@@ -175,8 +197,15 @@ impl Library {
     }
 
     /// `null` passes NULL for what has no elements.
-    pub fn list(&self, entry: Entry, line: Lent<'_>, rows: &mut [u32], null: bool) -> Option<List> {
-        let f = self.lists[entry as usize]?;
+    pub fn list(
+        &self,
+        reader: Reader,
+        entry: Entry,
+        line: Lent<'_>,
+        rows: &mut [u32],
+        null: bool,
+    ) -> Option<List> {
+        let f = self.lists[reader as usize][entry as usize]?;
         let Lent { kinds, text, pairs } = line;
         let rows_at = if null && rows.is_empty() { std::ptr::null_mut() } else { rows.as_mut_ptr() };
         // SAFETY: each pointer is that of a slice of the length given, or NULL with length 0.

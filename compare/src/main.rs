@@ -38,7 +38,7 @@ use std::sync::atomic::{AtomicUsize, Ordering};
 use std::time::{Duration, Instant, SystemTime};
 
 use cases::Piece;
-use check::{Due, MOVED, Tally, Worker};
+use check::{Due, MOVED, Tally, VIEWED, Worker};
 use library::Library;
 use numbers::{MARKED, MODES, Mode};
 
@@ -130,6 +130,11 @@ fn report(tally: &Tally, seconds: f64) {
     if tally.moves.iter().any(|n| *n > 0) {
         println!("moves by what they did: {}", did.join("; "));
     }
+    if tally.viewed.iter().any(|n| *n > 0) {
+        let due: Vec<String> =
+            VIEWED.iter().zip(tally.viewed).map(|(due, n)| format!("{due} {}", grouped(n))).collect();
+        println!("lists and links by what is due of the viewer: {}", due.join("; "));
+    }
     let counted = [
         ("lines in which commas were taken back, and more stand inside pairs of quotes", tally.crossing),
         ("is_block_attr_list said yes", tally.yes),
@@ -171,6 +176,13 @@ fn telling(library: &Library, tally: &Tally) -> bool {
         if tally.crossing < 1000 {
             missing.push("commas taken back where pairs cross".into());
         }
+        missing.extend(
+            VIEWED
+                .iter()
+                .zip(tally.viewed)
+                .filter(|(_, count)| *count < 1000)
+                .map(|(due, _)| format!("of the viewer: {due}")),
+        );
         for (tag, counts) in MARKED.iter().zip(tally.marks) {
             let few = (0..3).filter(|mark| counts[*mark] < 1000);
             missing.extend(few.map(|mark| format!("tag {tag} with the mark {mark}")));

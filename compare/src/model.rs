@@ -5,14 +5,16 @@
 use crate::numbers::{Mode, Move, ROW, Set};
 
 pub const MOST_TOKENS: usize = 4096;
+/// The small viewer's, of document 02.
+pub const VIEWER_TOKENS: usize = 256;
 pub const MOST_BYTES: usize = 65_535;
 
-/// Checks 1 to 6: the first that applies, or 0.
-pub fn line_refusal(kinds: &[u8], text: &[u8], pairs: &[u32]) -> usize {
+/// Checks 1 to 6 of a reader of at most `most` tokens: the first that applies, or 0.
+pub fn line_refusal(kinds: &[u8], text: &[u8], pairs: &[u32], most: usize) -> usize {
     if kinds.is_empty() {
         return 1;
     }
-    if kinds.len() > MOST_TOKENS {
+    if kinds.len() > most {
         return 2;
     }
     if text.len() > MOST_BYTES {

@@ -63,7 +63,7 @@ impl Recorded {
     fn is_block_attr_list(&mut self, line: Lent<'_>) {
         self.line(entry_number("telfjost_is_block_attr_list"), line);
         self.calls.push('\n');
-        let refusal = model::line_refusal(line.kinds, line.text, line.pairs);
+        let refusal = model::line_refusal(line.kinds, line.text, line.pairs, MOST_TOKENS);
         let yes = refusal == 0 && rust_side::is_block_attr_list(line);
         let _ = writeln!(self.answers, "{refusal} {}", u8::from(yes));
     }

@@ -7,7 +7,7 @@ use crate::check::{Due, expected_move, expected_set};
 use crate::deq::Deq;
 use crate::library::Library;
 use crate::lines::{LineBuf, SIGNIFICANT};
-use crate::model::{self, line_refusal, room_refusal};
+use crate::model::{self, MOST_TOKENS, VIEWER_TOKENS, line_refusal, room_refusal};
 use crate::parser::SourceLocation;
 use crate::reading::commas_inside;
 use crate::record;
@@ -175,14 +175,14 @@ fn lines_on_the_bench(t: &mut Tests) {
         line.push_all(&[(TokenKind::Word, "a")]);
     }
     line.push_all(&[(TokenKind::CloseBracket, "]")]);
-    t.same("4,096 tokens", line_refusal(&line.kinds, &line.text, &line.pairs), 0);
+    t.same("4,096 tokens", line_refusal(&line.kinds, &line.text, &line.pairs, MOST_TOKENS), 0);
     t.same(
         "4,096 tokens read",
         read(block, &line),
         Ok((Outcome::Read { consumed: 4096, rejoined: 0 }, vec![[2, 0, 4095, 0, 0, 0]])),
     );
     line.push_all(&[(TokenKind::CloseBracket, "]")]);
-    t.same("4,097 tokens", line_refusal(&line.kinds, &line.text, &line.pairs), 2);
+    t.same("4,097 tokens", line_refusal(&line.kinds, &line.text, &line.pairs, MOST_TOKENS), 2);
 }
 
 /// Other sentences of document 01, one line each.
@@ -409,8 +409,17 @@ fn refusals(t: &mut Tests) {
         ("a sum over 2^32", 6, &[word, word], 3, &[0, 1, 2, u32::MAX]),
     ];
     for (what, number, kinds, bytes, pairs) in table {
-        t.same(what, line_refusal(kinds, &vec![b'a'; bytes], pairs), number);
+        t.same(what, line_refusal(kinds, &vec![b'a'; bytes], pairs, MOST_TOKENS), number);
     }
+    // a lower limit: document 02's viewer, and none at all
+    let of_words = |tokens: usize, most| line_refusal(&vec![word; tokens], b"", &vec![0; 2 * tokens], most);
+    t.same("256 tokens for the viewer", of_words(256, VIEWER_TOKENS), 0);
+    t.same("257 tokens for the viewer", of_words(257, VIEWER_TOKENS), 2);
+    t.same("257 bad kinds for the viewer", line_refusal(&[51; 257], b"", &[], VIEWER_TOKENS), 2);
+    t.same("256 bad kinds for the viewer", line_refusal(&[51; 256], b"", &[0; 512], VIEWER_TOKENS), 5);
+    t.same("no tokens for the viewer", of_words(0, VIEWER_TOKENS), 1);
+    t.same("a token where none is read", of_words(1, 0), 2);
+    t.same("no tokens where none is read", of_words(0, 0), 1);
 }
 
 /// Every line of up to three significant tokens: the harness's own reading gives what the Rust

@@ -83,7 +83,7 @@ module _ (most : ℕ) (l : Line) (room : ℕ) where
 -- ---- an entry: what it gives is its outcome, demand 3 included
 
 module _ (most : ℕ) (e : Entry) (l : Line) (given : List ℕ) where
-  gives-outcome : (a : Answer) (left : List ℕ) → Gives given (reading most e l (length given)) a left → Outcome most e l given a left
+  pub gives-outcome : (a : Answer) (left : List ℕ) → Gives given (reading most e l (length given)) a left → Outcome most e l given a left
   gives-outcome a left w =
       record {
         answer = w.answer;

@@ -12,7 +12,7 @@ use Rattle.attr_list.specs.ReadAsList.{TakenAsList, ReadAsList}
 use Rattle.attr_list.specs.Outcome.{Outcome, WhenReadAsList}
 use Rattle.attr_list.proofs.RefusalLaws.{Numbered, reading-numbered}
 use Rattle.telfjost.specs.declared.TelfjostList.{TelfjostList}
-use Rattle.telfjost.specs.Outcome.{NumbersOf, ListOutcome}
+use Rattle.telfjost.specs.Outcome.{NumbersOf, OutcomeWithin, ListOutcome}
 
 -- a refusal's number is not 0
 abbrev Told : Answer → Type 0
@@ -23,19 +23,23 @@ told : (r : Reading) → Numbered r → Told (answer_of r)
 told (refused n) w = w
 told (gives rows consumed rejoined) w = tt
 
-module _ (e : Entry) (l : Line) (given left : List ℕ) (r : TelfjostList) where
-  list-said : (a : Answer) → Told a → NumbersOf a r → WhenReadAsList most_tokens e l given a left → r.refusal ≡ 0 → TakenAsList e l → ReadAsList most_tokens e l given r.rows r.consumed r.rejoined left
+module _ (most : ℕ) (e : Entry) (l : Line) (given left : List ℕ) (r : TelfjostList) where
+  list-said : (a : Answer) → Told a → NumbersOf a r → WhenReadAsList most e l given a left → r.refusal ≡ 0 → TakenAsList e l → ReadAsList most e l given r.rows r.consumed r.rejoined left
   list-said (Refused n) v w s z t = absurd (omega (arith, v, w.refusal, z))
   list-said (Read rows consumed rejoined) v w s z t =
-      subst (λ (x : ℕ). ReadAsList most_tokens e l given x r.consumed r.rejoined left) (sym w.rows)
-      (subst (λ (x : ℕ). ReadAsList most_tokens e l given rows x r.rejoined left) (sym w.consumed)
-      (subst (λ (x : ℕ). ReadAsList most_tokens e l given rows consumed x left) (sym w.rejoined) (s t)))
+      subst (λ (x : ℕ). ReadAsList most e l given x r.consumed r.rejoined left) (sym w.rows)
+      (subst (λ (x : ℕ). ReadAsList most e l given rows x r.rejoined left) (sym w.consumed)
+      (subst (λ (x : ℕ). ReadAsList most e l given rows consumed x left) (sym w.rejoined) (s t)))
 
-  pub list-outcome : (a : Answer) → Outcome most_tokens e l given a left → NumbersOf a r → ListOutcome e l given r left
-  list-outcome a o w =
-      let given_by = reading most_tokens e l (length given) in
+  pub outcome-within : (a : Answer) → Outcome most e l given a left → NumbersOf a r → OutcomeWithin most e l given r left
+  outcome-within a o w =
+      let given_by = reading most e l (length given) in
       record {
         numbers = subst (λ (x : Answer). NumbersOf x r) o.answer w;
         buffer = o.buffer;
-        list = list-said a (subst Told (sym o.answer) (told given_by (reading-numbered most_tokens e l (length given)))) w o.list;
+        list = list-said a (subst Told (sym o.answer) (told given_by (reading-numbered most e l (length given)))) w o.list;
       }
+
+-- the main reader's
+pub list-outcome : (e : Entry) (l : Line) (given left : List ℕ) (r : TelfjostList) (a : Answer) → Outcome most_tokens e l given a left → NumbersOf a r → ListOutcome e l given r left
+list-outcome = outcome-within most_tokens

@@ -9,6 +9,7 @@ use Rattle.attr_list.specs.ReadAsList.{TakenAsList, ReadAsList}
 use Rattle.attr_list.specs.Block as block
 use Rattle.attr_list.specs.Told.{told, told_line}
 use Rattle.attr_list.specs.declared.Read as code
+use Rattle.viewer.specs.Limit.{viewer_tokens}
 use Rattle.telfjost.specs.declared.TelfjostBool.{TelfjostBool}
 use Rattle.telfjost.specs.declared.TelfjostList.{TelfjostList}
 
@@ -31,10 +32,18 @@ pub record NumbersOf (a : Answer) (r : TelfjostList) : Type 0 where
 abbrev pub ListNumbers : Result code.Read Refusal → TelfjostList → Type 0
 ListNumbers a r = NumbersOf (told a) r
 
--- The entry e was lent the line l and a row buffer of the numbers `given`; the function answered r and left the numbers `left`.
-pub record ListOutcome (e : Entry) (l : Line) (given : List ℕ) (r : TelfjostList) (left : List ℕ) : Type 0 where
+-- The entry e, of a reader that takes at most `most` tokens, was lent the line l and a row buffer of the numbers `given`; the function answered r and
+-- left the numbers `left`.
+pub record OutcomeWithin (most : ℕ) (e : Entry) (l : Line) (given : List ℕ) (r : TelfjostList) (left : List ℕ) : Type 0 where
   -- the one answer, number by number, and every number of the buffer on return
-  pub numbers : NumbersOf (answer_of (reading most_tokens e l (length given))) r
-  pub buffer : left ≡ buffer_of given (reading most_tokens e l (length given))
+  pub numbers : NumbersOf (answer_of (reading most e l (length given))) r
+  pub buffer : left ≡ buffer_of given (reading most e l (length given))
   -- never divided wrongly, said of these numbers
-  pub list : r.refusal ≡ 0 → TakenAsList e l → ReadAsList most_tokens e l given r.rows r.consumed r.rejoined left
+  pub list : r.refusal ≡ 0 → TakenAsList e l → ReadAsList most e l given r.rows r.consumed r.rejoined left
+
+-- the main reader's functions, and the small viewer's
+abbrev pub ListOutcome : Entry → Line → (given : List ℕ) → TelfjostList → (left : List ℕ) → Type 0
+ListOutcome = OutcomeWithin most_tokens
+
+abbrev pub ViewerOutcome : Entry → Line → (given : List ℕ) → TelfjostList → (left : List ℕ) → Type 0
+ViewerOutcome = OutcomeWithin viewer_tokens

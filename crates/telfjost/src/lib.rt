@@ -4,6 +4,7 @@
 mod lists;
 mod sets;
 mod subs;
+mod viewer_lists;
 
 ghost use Rattle.token.specs.Lent.{line};
 ghost use Rattle.telfjost.specs.Outcome.{BlockNumbers, BlockOutcome};

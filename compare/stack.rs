@@ -254,30 +254,21 @@ impl Painted {
     }
 }
 
-/// The most of one reading over its lines.
-#[derive(Default, Clone, Copy)]
-struct Most {
-    bytes: usize,
-    tokens: usize,
-}
-
+/// The most bytes that a reading takes over the lines of these lengths, and how many of them it reads.
 fn most(
     stack: &mut Painted,
     reading: Reading,
     base: usize,
     lengths: impl Iterator<Item = usize>,
-) -> (Most, u64) {
+) -> (usize, u64) {
     let mut rng = Rng(0x7e1f_1057);
-    let mut rows = vec![0; ROW * (MAIN_TOKENS + 1)];
-    let (mut most, mut read) = (Most::default(), 0);
+    let mut rows = vec![0; ROW * MAIN_TOKENS];
+    let (mut most, mut read) = (0, 0);
     for tokens in lengths {
         for line in lines(tokens, &mut rng) {
             let (depth, answer) = stack.depth(reading, &line, &mut rows);
+            most = most.max(depth - base);
             read += u64::from(answer.refusal == 0);
-            let bytes = depth - base;
-            if bytes > most.bytes {
-                most = Most { bytes, tokens };
-            }
         }
     }
     (most, read)
@@ -288,20 +279,19 @@ fn main() -> ExitCode {
     let line = Line::of(1, |_| 0);
     let (base, _) = stack.depth(nothing, &line, &mut []);
     let mut right = true;
-    println!("bytes of stack that one call takes, at most, over lines of every sort of attribute and random ones:");
+    println!(
+        "bytes of stack that one call takes, at most, on lines of every sort of attribute and random ones:"
+    );
     for (at, (name, reading)) in READINGS.into_iter().enumerate() {
-        let ranges: &[(usize, usize, usize)] = match at {
-            0..4 => &[(1, 64, 1), (65, 256, 1), (257, MAIN_TOKENS, 191)],
-            _ => &[(1, 64, 1), (65, VIEWER_TOKENS, 1), (VIEWER_TOKENS + 1, MAIN_TOKENS, 191)],
-        };
+        let of_viewer = at >= 4;
         let mut shown = Vec::new();
-        for (from, to, step) in ranges {
-            let (most, read) = most(&mut stack, reading, base, (*from..=*to).step_by(*step));
-            let over = at >= 4 && *from > VIEWER_TOKENS;
-            shown.push(format!("{from} to {to} tokens {} ({} read)", most.bytes, read));
-            right &= over == (read == 0);
-            right &= if at >= 4 { most.bytes <= VIEWERS_STACK } else { (*from <= VIEWER_TOKENS) == (most.bytes <= MAINS_ARRAY) };
-            right &= most.tokens >= *from;
+        for (from, to, step) in [(1, VIEWER_TOKENS, 1), (VIEWER_TOKENS + 1, MAIN_TOKENS, 191)] {
+            let (most, read) = most(&mut stack, reading, base, (from..=to).step_by(step));
+            // the viewer refuses what is over its limit, and each reader reads most of the rest
+            let refuses_all = of_viewer && from > VIEWER_TOKENS;
+            right &= refuses_all == (read == 0);
+            right &= if of_viewer { most <= VIEWERS_STACK } else { most > MAINS_ARRAY };
+            shown.push(format!("{from} to {to} tokens {most} ({read} lines read)"));
         }
         println!("  {name}: {}", shown.join(", "));
     }

@@ -137,8 +137,7 @@ telfjost_list telfjost_link_macro_attr_list(const uint8_t *kinds, size_t kinds_l
  * The small viewer's: the four readings for lines of at most 256 tokens, in less memory. A line of
  * more is refused with 2, whatever else is wrong with it. Of any other line each function answers,
  * refuses and writes what the one above does whose name it has behind `viewer_`. A call takes
- * under 2,048 bytes of stack, where one above takes 8,192 and more for a line of over 256 tokens
- * (docs/VIEWER.md).
+ * under 2,048 bytes of stack, where one above takes over 8,192 (docs/VIEWER.md).
  */
 telfjost_list telfjost_viewer_block_attr_list(const uint8_t *kinds, size_t kinds_len,
                                               const uint8_t *text, size_t text_len,

@@ -197,8 +197,14 @@ fn the_longest_line_of_the_viewer_and_one_more() {
         let mut closed_by_none = commas(256);
         closed_by_none.push(Kind::Word, "a");
         assert_eq!(viewer.read(entry, &closed_by_none), Err(Refusal::TooManyTokens), "{entry:?}");
-        assert_eq!(viewer.read(entry, Lent { kinds: &[51; 257], text: &[], pairs: &[] }), Err(Refusal::TooManyTokens));
-        assert_eq!(viewer.read(entry, Lent { kinds: &[51; 256], text: &[], pairs: &[0; 512] }), Err(Refusal::KindTooLarge));
+        assert_eq!(
+            viewer.read(entry, Lent { kinds: &[51; 257], text: &[], pairs: &[] }),
+            Err(Refusal::TooManyTokens)
+        );
+        assert_eq!(
+            viewer.read(entry, Lent { kinds: &[51; 256], text: &[], pairs: &[0; 512] }),
+            Err(Refusal::KindTooLarge)
+        );
         assert_eq!(viewer.read(entry, &Line::new()), Err(Refusal::NoTokens), "{entry:?}");
     }
 }

@@ -37,13 +37,15 @@ use std::hint::black_box;
 use std::process::ExitCode;
 use std::time::{Duration, Instant};
 
-use library::Library;
+use library::{Library, Reader};
 use lines::LineBuf;
 use page::Measured;
 use rust_side::{ENTRIES, Entry, Lent, Mode, NORMAL, ROW};
 use stand_in::Bump;
 
-const LENGTHS: [usize; 6] = [3, 8, 20, 100, 1000, 4096];
+/// 64 and 256 are the most tokens whose commas fit the smaller arrays of the reader.
+const LENGTHS: [usize; 10] = [3, 8, 20, 64, 65, 100, 256, 257, 1000, 4096];
+const OF_THE_VIEWER: [usize; 4] = [3, 64, 65, 256];
 
 /// Attributes as report sheets have them, again and again.
 const MIX: [&str; 10] = [
@@ -117,19 +119,19 @@ struct Bench {
 }
 
 impl Bench {
-    /// One entry on one line; None if the entry is not exported.
-    fn list(&mut self, entry: Entry, name: &'static str, line: &LineBuf) -> Option<Measured> {
-        if !self.library.has_list(entry) {
+    /// One entry of one reader on one line; None if it is not exported.
+    fn list(&mut self, reader: Reader, entry: Entry, name: &'static str, line: &LineBuf) -> Option<Measured> {
+        if !self.library.has_list(reader, entry) {
             return None;
         }
         let tokens = line.kinds.len();
-        self.same_answer(entry, line.lent());
+        self.same_answer(reader, entry, line.lent());
         let many = (2048 / tokens).max(1);
         let (library, rows) = (&self.library, &mut self.rows);
         let ours = || {
             let start = Instant::now();
             for _ in 0..many {
-                black_box(library.list(entry, black_box(line.lent()), rows, false));
+                black_box(library.list(reader, entry, black_box(line.lent()), rows, false));
             }
             start.elapsed()
         };
@@ -156,15 +158,16 @@ impl Bench {
 
     /// Both read the line, consume as much and find as many attributes; else the times would
     /// be of different tasks.
-    fn same_answer(&mut self, entry: Entry, lent: Lent<'_>) {
-        let given = self.library.list(entry, lent, &mut self.rows, false).expect("the entry is exported");
+    fn same_answer(&mut self, reader: Reader, entry: Entry, lent: Lent<'_>) {
+        let given =
+            self.library.list(reader, entry, lent, &mut self.rows, false).expect("the entry is exported");
         let mut line = rust_side::line_of(lent, &self.bump);
         let list = rust_side::read(entry, &mut line, &self.bump);
         let consumed = lent.kinds.len() - line.num_tokens();
         let noted = self.rows.chunks(ROW).take(given.rows).filter(|row| row[0] == 7).count();
         if (given.refusal, given.consumed, given.rows - noted) != (0, consumed, list.rows()) {
             eprintln!(
-                "bench: {entry:?}, {} tokens: the reader gives {given:?} ({noted} diagnostics), the Rust {} and {consumed} consumed",
+                "bench: {reader:?}, {entry:?}, {} tokens: the reader gives {given:?} ({noted} diagnostics), the Rust {} and {consumed} consumed",
                 lent.kinds.len(),
                 list.rows()
             );
@@ -263,15 +266,22 @@ fn main() -> ExitCode {
     let crossing = repeated("\",',", 4096);
     for entry in ENTRIES {
         let mut table: Vec<Measured> =
-            mixes.iter().filter_map(|line| bench.list(entry, "realistic mix", line)).collect();
-        table.extend(bench.list(entry, "all commas", &commas));
-        table.extend(bench.list(entry, "crossing quotes", &crossing));
+            mixes.iter().filter_map(|line| bench.list(Reader::Main, entry, "realistic mix", line)).collect();
+        table.extend(bench.list(Reader::Main, entry, "all commas", &commas));
+        table.extend(bench.list(Reader::Main, entry, "crossing quotes", &crossing));
         if entry == Entry::Link {
             let text = repeated("see the method ", 1000);
-            table.extend(bench.list(entry, "link text", &text));
+            table.extend(bench.list(Reader::Main, entry, "link text", &text));
         }
         tables.push((page::entry_name(entry), "token", table));
     }
+    let of_viewer: Vec<LineBuf> = OF_THE_VIEWER.iter().map(|tokens| mix(*tokens)).collect();
+    let mut table = Vec::new();
+    for entry in ENTRIES {
+        let name = page::entry_name(entry);
+        table.extend(of_viewer.iter().filter_map(|line| bench.list(Reader::Viewer, entry, name, line)));
+    }
+    tables.push((page::VIEWER, "token", table));
     let bracketed: Vec<LineBuf> = mixes
         .iter()
         .map(|line| {

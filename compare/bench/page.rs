@@ -38,6 +38,9 @@ pub fn entry_name(entry: Entry) -> &'static str {
     }
 }
 
+/// The name of the viewer's table.
+pub const VIEWER: &str = "the small viewer, realistic mix";
+
 fn is_list(name: &str) -> bool {
     name.starts_with("parse_")
 }
@@ -93,7 +96,7 @@ pub fn console(tables: &[Table]) -> String {
         let _ = writeln!(out, "{name}");
         let _ = writeln!(
             out,
-            "  {:<18} {:>7} {:>12} {:>12} {:>9} {:>9} {:>7}",
+            "  {:<28} {:>7} {:>12} {:>12} {:>9} {:>9} {:>7}",
             "",
             format!("{unit}s"),
             "ns reader",
@@ -105,7 +108,7 @@ pub fn console(tables: &[Table]) -> String {
         for [what, size, ours, theirs, each, theirs_each, ratio] in rows(table) {
             let _ = writeln!(
                 out,
-                "  {what:<18} {size:>7} {ours:>12} {theirs:>12} {each:>9} {theirs_each:>9} {ratio:>7}"
+                "  {what:<28} {size:>7} {ours:>12} {theirs:>12} {each:>9} {theirs_each:>9} {ratio:>7}"
             );
         }
     }
@@ -291,7 +294,8 @@ pub fn plot(tables: &[Table]) -> String {
         );
         ns *= 10.0;
     }
-    for tokens in crate::LENGTHS {
+    // 65 and 257 stand too near to the lengths before them to be written
+    for tokens in crate::LENGTHS.into_iter().filter(|tokens| ![65, 257].contains(tokens)) {
         let at = x(tokens as f64);
         let _ = writeln!(
             out,

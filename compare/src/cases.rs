@@ -442,8 +442,7 @@ fn damaged_lines(
             }
             let numbers = numbers.unwrap_or(ROW * line.kinds.len() + rng.below(3));
             // Damage may put a lexeme into a gap or inside a character.
-            let for_rust: Vec<u8> =
-                line.text.iter().map(|b| if b.is_ascii() { *b } else { b'Z' }).collect();
+            let for_rust: Vec<u8> = line.text.iter().map(|b| if b.is_ascii() { *b } else { b'Z' }).collect();
             for entry in ENTRIES {
                 worker.list_for(entry, line.lent(), &for_rust, numbers, turn)?;
             }

@@ -210,13 +210,16 @@ impl<'l> Worker<'l> {
         numbers: usize,
         salt: u32,
     ) -> Checked {
-        if !self.library.has_list(entry) {
+        if !self.library.has_list(Reader::Main, entry) {
             return Ok(());
         }
         let of_main = self.expected(entry, line, rust_text, numbers)?;
         self.count(of_main.refusal);
         self.count_rows(line, of_main);
         self.call_list(Reader::Main, entry, line, numbers, salt, of_main)?;
+        if !self.library.has_list(Reader::Viewer, entry) {
+            return Ok(());
+        }
         let of_viewer = self.of_viewer(line, of_main);
         self.call_list(Reader::Viewer, entry, line, numbers, salt, of_viewer)
     }

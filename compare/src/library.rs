@@ -62,8 +62,6 @@ pub enum Reader {
     Viewer,
 }
 
-pub const READERS: [Reader; 2] = [Reader::Main, Reader::Viewer];
-
 /// Where there are two of a kind, port mode stands first and sheet mode second.
 #[derive(Default)]
 pub struct Library {
@@ -180,8 +178,8 @@ impl Library {
             + there(&[self.contains])
     }
 
-    pub fn has_list(&self, entry: Entry) -> bool {
-        self.lists.iter().any(|lists| lists[entry as usize].is_some())
+    pub fn has_list(&self, reader: Reader, entry: Entry) -> bool {
+        self.lists[reader as usize][entry as usize].is_some()
     }
 
     pub fn has_is_block_attr_list(&self) -> bool {

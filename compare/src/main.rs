@@ -39,7 +39,7 @@ use std::time::{Duration, Instant, SystemTime};
 
 use cases::Piece;
 use check::{Due, MOVED, Tally, VIEWED, Worker};
-use library::Library;
+use library::{Library, Reader};
 use numbers::{MARKED, MODES, Mode};
 
 const SEED: u64 = 0x7e1f_1057;
@@ -153,7 +153,8 @@ fn report(tally: &Tally, seconds: f64) {
 /// A comparison that never met an answer of some kind would say little.
 fn telling(library: &Library, tally: &Tally) -> bool {
     let mut missing = Vec::new();
-    let lists = rust_side::ENTRIES.iter().any(|e| library.has_list(*e));
+    let lists_of = |reader| rust_side::ENTRIES.iter().any(|e| library.has_list(reader, *e));
+    let lists = lists_of(Reader::Main);
     let of_sets = |mode| library.has_from_meta(mode) || library.has_moves(mode);
     let due = |n: usize| match n {
         0 => true,
@@ -176,13 +177,10 @@ fn telling(library: &Library, tally: &Tally) -> bool {
         if tally.crossing < 1000 {
             missing.push("commas taken back where pairs cross".into());
         }
-        missing.extend(
-            VIEWED
-                .iter()
-                .zip(tally.viewed)
-                .filter(|(_, count)| *count < 1000)
-                .map(|(due, _)| format!("of the viewer: {due}")),
-        );
+        let viewed = VIEWED.iter().zip(tally.viewed).filter(|(_, count)| *count < 1000);
+        if lists_of(Reader::Viewer) {
+            missing.extend(viewed.map(|(due, _)| format!("of the viewer: {due}")));
+        }
         for (tag, counts) in MARKED.iter().zip(tally.marks) {
             let few = (0..3).filter(|mark| counts[*mark] < 1000);
             missing.extend(few.map(|mark| format!("tag {tag} with the mark {mark}")));

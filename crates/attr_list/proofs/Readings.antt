@@ -36,7 +36,7 @@ use Rattle.attr_list.specs.declared.entries.Entry.TheVariants.{Block, BlockMacro
 use Rattle.attr_list.specs.Entry.{is_block, full_line}
 use Rattle.attr_list.specs.Answer.{Answer, Refused, Read}
 use Rattle.list_rows.specs.ListRows.{parted_rows, list_rows, rows_from}
-use Rattle.attr_list.specs.Reading.{Reading, refused, gives, answer_of, Gives, list_to, list_of, text_to, read_by, unless_closed, lent_refusal, unless_refused, reading}
+use Rattle.attr_list.specs.Reading.{Reading, refused, gives, answer_of, Gives, list_to, list_of, text_to, link_to, read_by, unless_closed, lent_refusal, unless_refused, reading}
 use Rattle.attr_list.specs.Outcome.{Outcome, WhenReadAsList}
 use Rattle.attr_list.proofs.Laws.{bracket-some}
 use Rattle.attr_list.proofs.ReadAsListLaws.{read-as-list}
@@ -130,6 +130,21 @@ open_is kinds r h = ap (λ (b : Bool). cond b (gives [] 1 0) r) (sym (ne_eqb (ki
 
 pub open_gives : (kinds : List ℕ) (r : Reading) (given : List ℕ) → (kind_at kinds 0 ≡ close_bracket → ⊥) → (a : Answer) (left : List ℕ) → Gives given r a left → Gives given (unless_closed kinds r) a left
 open_gives kinds r given h a left w = gives_as given r (unless_closed kinds r) a left w (open_is kinds r h)
+
+-- what is read of such a line m, the line l that was lent, where it is refused by none of 1 to 7
+module _ (most : ℕ) (e : Entry) (l m : Line) (given : List ℕ) (z : refusal most l ≡ 0) (f : room_for (length l.kinds) (length given) ≡ true) (h : kind_at l.kinds 0 ≡ close_bracket → ⊥) (same : m ≡ l) (a : Answer) (left : List ℕ) where
+  pub outcome-list : (e ≡ Link → ⊥) → Gives given (list_of m (full_line e) (is_block e)) a left → Outcome most e l given a left
+  outcome-list n w =
+      outcome-read most e l given z f a left
+      (open_gives l.kinds (read_by e l) given h a left
+      (gives_as given _ _ a left (subst (λ (x : Line). Gives given (list_of x (full_line e) (is_block e)) a left) same w) (list-entry e l n)))
+
+  pub outcome-link : e ≡ Link → Gives given (link_to m (link_macro m.kinds m.pairs)) a left → Outcome most e l given a left
+  outcome-link is w =
+      outcome-read most e l given z f a left
+      (open_gives l.kinds (read_by e l) given h a left
+      (subst (λ (x : Entry). Gives given (read_by x l) a left) (sym is)
+      (subst (λ (x : Line). Gives given (link_to x (link_macro x.kinds x.pairs)) a left) same w)))
 
 -- ---- a list
 

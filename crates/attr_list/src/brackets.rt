@@ -29,16 +29,13 @@ pub(crate) struct Held<'a> {
     pub(crate) ghost open: { kind_at line.kinds.now 0 ≡ close_bracket → ⊥ },
 }
 
-// A line has its commas in the smallest of three arrays that has room, since a small one is cleared sooner than a large one, and the small viewer, which
-// reads lines of 256 tokens at most, has no memory for the largest. They are arrays, since there is no heap.
+// Lines of so many tokens have their commas in a small array, which is cleared sooner than the large one. Both are arrays, since there is no heap.
 const SHORT: usize = 64;
-
-const MIDDLE: usize = 256;
 
 // Reads a list whose commas are put into `commas`. Inlined into its calls: as a function of its own it takes the line through memory, and a line of three
 // tokens took 10 cycles more.
 #[inline(always)]
-fn read_list_in(
+pub(crate) fn read_list_in(
     held: Held<'_>,
     entry: Entry,
     commas: &mut [u16],
@@ -62,35 +59,23 @@ fn read_list_in(
     })
 }
 
-// Reads a list of any length. Never inlined: the largest array, 8,192 bytes, is on the stack only while a line that needs it is read.
-#[inline(never)]
-fn read_long_list(held: Held<'_>, entry: Entry, rows: &mut [u32]) -> Result<Read, Refusal>
-    requires { width * length held.line.kinds.now ≤ length rows.old }
-    ensures { Gives rows.old (list_of (line_in held.entry.line) (full_line entry) (is_block entry)) (told result) rows.new }
-{
-    let mut commas = [0u16; MOST_TOKENS];
-    read_list_in(held, entry, &mut commas, rows)
-}
-
 // Reads a list.
 pub(crate) fn read_list(held: Held<'_>, entry: Entry, rows: &mut [u32]) -> Result<Read, Refusal>
     requires { width * length held.line.kinds.now ≤ length rows.old }
     ensures { Gives rows.old (list_of (line_in held.entry.line) (full_line entry) (is_block entry)) (told result) rows.new }
 {
-    let tokens = held.line.kinds.len();
-    if tokens <= SHORT {
+    if held.line.kinds.len() <= SHORT {
         let mut few = [0u16; SHORT];
         return read_list_in(held, entry, &mut few, rows);
     }
-    if tokens <= MIDDLE {
-        let mut more = [0u16; MIDDLE];
-        return read_list_in(held, entry, &mut more, rows);
-    }
-    read_long_list(held, entry, rows)
+    let mut commas = [0u16; MOST_TOKENS];
+    read_list_in(held, entry, &mut commas, rows)
 }
 
-// Reads a link's text, which ends before the token at `end`.
-fn read_text(line: Line<'_>, end: TokenPlace, rows: &mut [u32]) -> Result<Read, Refusal>
+// Reads a link's text, which ends before the token at `end`. Inlined, so that the main reader's call is compiled as it was when it was
+// the only one.
+#[inline(always)]
+pub(crate) fn read_text(line: Line<'_>, end: TokenPlace, rows: &mut [u32]) -> Result<Read, Refusal>
     requires room { width * length line.kinds.now ≤ length rows.old }
     requires among { end.0 < length line.kinds.now }
     ensures { Gives rows.old (text_to (line_in line.entry) end.0) (told result) rows.new }

@@ -16,6 +16,8 @@ pub(crate) struct Seen {
 }
 
 // What a token of kind k at a place decides: that there is a list, that the text is closed before it, or nothing yet. `one` says that its length is 1.
+// Inlined, as `link_macro` is.
+#[inline(always)]
 #[tactic(auto, unfolding(crate::specs::Link::turn))]
 pub(crate) fn turn_at(seen: Seen, at: TokenPlace, k: u8, one: bool) -> ControlFlow<LinkMacro, Seen>
     ensures turn { result ≡ turn seen at.0 k one }

@@ -10,30 +10,29 @@ ghost use Rattle.attr_list.specs.Told.{told};
 ghost use Rattle.attr_list.specs.Outcome.{Outcome};
 ghost use Rattle.viewer.specs.Limit.{viewer_tokens};
 
+use attr_list::Read;
 use attr_list::entries::Entry;
-use attr_list::{Read, parse_attr_list};
+use attr_list::short::parse_short_attr_list;
 use refusals::Refusal;
 
 // The most tokens of a line that the viewer reads.
 pub const MOST_TOKENS: usize = 256;
 
-// Reads a line of at most `most` tokens as the main reader does, and refuses one of more. Inlined, so that a call's limit and entry are known beforehand.
-#[inline(always)]
-fn parse_attr_list_within(
-    most: usize,
+// Reads a line of at most MOST tokens as the main reader does, and refuses one of more, for any such limit up to the main reader's.
+fn parse_attr_list_within<const MOST: usize>(
     entry: Entry,
     kinds: &[u8],
     text: &[u8],
     pairs: &[u32],
     rows: &mut [u32],
 ) -> Result<Read, Refusal>
-    requires { most ≤ most_tokens }
-    ensures { Outcome most entry (line kinds.entry text.entry pairs.entry) rows.old (told result) rows.new }
+    requires { MOST ≤ most_tokens }
+    ensures { Outcome MOST entry (line kinds.entry text.entry pairs.entry) rows.old (told result) rows.new }
 {
-    if kinds.len() > most {
+    if kinds.len() > MOST {
         return Err(Refusal::TooManyTokens);
     }
-    parse_attr_list(entry, kinds, text, pairs, rows)
+    parse_short_attr_list::<MOST>(entry, kinds, text, pairs, rows)
 }
 
 // Reads the attribute list of a block.
@@ -45,7 +44,7 @@ pub fn parse_block_attr_list(
 ) -> Result<Read, Refusal>
     ensures { Outcome viewer_tokens Block (line kinds.entry text.entry pairs.entry) rows.old (told result) rows.new }
 {
-    parse_attr_list_within(MOST_TOKENS, Entry::Block, kinds, text, pairs, rows)
+    parse_attr_list_within::<MOST_TOKENS>(Entry::Block, kinds, text, pairs, rows)
 }
 
 // Reads the attribute list of a block macro.
@@ -57,7 +56,7 @@ pub fn parse_block_macro_attr_list(
 ) -> Result<Read, Refusal>
     ensures { Outcome viewer_tokens BlockMacro (line kinds.entry text.entry pairs.entry) rows.old (told result) rows.new }
 {
-    parse_attr_list_within(MOST_TOKENS, Entry::BlockMacro, kinds, text, pairs, rows)
+    parse_attr_list_within::<MOST_TOKENS>(Entry::BlockMacro, kinds, text, pairs, rows)
 }
 
 // Reads the attribute list of an inline macro.
@@ -69,7 +68,7 @@ pub fn parse_inline_macro_attr_list(
 ) -> Result<Read, Refusal>
     ensures { Outcome viewer_tokens Inline (line kinds.entry text.entry pairs.entry) rows.old (told result) rows.new }
 {
-    parse_attr_list_within(MOST_TOKENS, Entry::Inline, kinds, text, pairs, rows)
+    parse_attr_list_within::<MOST_TOKENS>(Entry::Inline, kinds, text, pairs, rows)
 }
 
 // Reads what a link macro's brackets hold.
@@ -81,5 +80,5 @@ pub fn parse_link_macro_attr_list(
 ) -> Result<Read, Refusal>
     ensures { Outcome viewer_tokens Link (line kinds.entry text.entry pairs.entry) rows.old (told result) rows.new }
 {
-    parse_attr_list_within(MOST_TOKENS, Entry::Link, kinds, text, pairs, rows)
+    parse_attr_list_within::<MOST_TOKENS>(Entry::Link, kinds, text, pairs, rows)
 }

@@ -5,12 +5,12 @@ use Rattle.attr_list.specs.Told.{told}
 use Rattle.viewer.proofs.LimitLaws.{outcome-over, outcome-within}
 use Rattle.viewer.proofs.parse_attr_list_within.Goals as goal
 
-pub returns-then-kinds-most : goal.returns-then-kinds-most
-returns-then-kinds-most c =
+pub returns-then-kinds : goal.returns-then-kinds
+returns-then-kinds g c =
     let a = c.args in
-    outcome-over a.most c.requires a.entry (line_of a.kinds.now a.text.now a.pairs.now) a.rows.now c.if-kinds-most.true
+    outcome-over g.row.MOST c.requires a.entry (line_of a.kinds.now a.text.now a.pairs.now) a.rows.now c.if-kinds.true
 
 pub returns : goal.returns
-returns c =
+returns g c =
     let a = c.args in
-    outcome-within a.most c.requires a.entry (line_of a.kinds.now a.text.now a.pairs.now) a.rows.now c.if-kinds-most.false (told c.parse_attr_list.result) c.parse_attr_list.new.rows c.parse_attr_list.ensures
+    outcome-within g.row.MOST c.requires a.entry (line_of a.kinds.now a.text.now a.pairs.now) a.rows.now c.if-kinds.false (told c.parse_short_attr_list.result) c.parse_short_attr_list.new.rows c.parse_short_attr_list.ensures

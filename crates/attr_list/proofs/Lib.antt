@@ -4,3 +4,4 @@ pub mod OneAnswerLaws
 pub mod RefusalLaws
 pub mod BlockLaws
 pub mod Readings
+pub mod LimitLaws

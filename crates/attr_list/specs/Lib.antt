@@ -5,3 +5,4 @@ pub mod ReadAsList
 pub mod Outcome
 pub mod Block
 pub mod Told
+pub mod Limit

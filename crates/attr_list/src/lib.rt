@@ -21,7 +21,7 @@ use token::lent::Line;
 mod block;
 mod brackets;
 pub mod entries;
-pub mod short;
+pub mod within;
 
 // What is told of a line that is read: how many rows are written, how many tokens are consumed, and how many commas were taken back.
 #[derive(Clone, Copy, Debug, PartialEq, Eq)]

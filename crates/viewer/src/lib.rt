@@ -1,10 +1,8 @@
-// The small viewer: the four readings of the crate `attr_list` for lines of 256 tokens at most. What holds of a limit is said of any limit up to the
-// main reader's (specs/Limit.antt, LimitLaws); what an entry answers and leaves is `Outcome`, as the main reader's is, with this limit.
+// The small viewer: the four readings of the crate `attr_list` for lines of 256 tokens at most. What an entry answers and leaves is `Outcome`, as the
+// main reader's is, with this limit; what a limit does is proved there once for any.
 #![tactic(auto)]
 
-ghost use Rattle.std.specs.Prelude.{◌≤◌};
 ghost use Rattle.token.specs.Lent.{line};
-ghost use Rattle.token.specs.Line.{most_tokens};
 ghost use Rattle.attr_list.specs.declared.entries.Entry.TheVariants.{Block, BlockMacro, Inline, Link};
 ghost use Rattle.attr_list.specs.Told.{told};
 ghost use Rattle.attr_list.specs.Outcome.{Outcome};
@@ -12,28 +10,11 @@ ghost use Rattle.viewer.specs.Limit.{viewer_tokens};
 
 use attr_list::Read;
 use attr_list::entries::Entry;
-use attr_list::short::parse_short_attr_list;
+use attr_list::within::parse_attr_list_within;
 use refusals::Refusal;
 
 // The most tokens of a line that the viewer reads.
 pub const MOST_TOKENS: usize = 256;
-
-// Reads a line of at most MOST tokens as the main reader does, and refuses one of more, for any such limit up to the main reader's.
-fn parse_attr_list_within<const MOST: usize>(
-    entry: Entry,
-    kinds: &[u8],
-    text: &[u8],
-    pairs: &[u32],
-    rows: &mut [u32],
-) -> Result<Read, Refusal>
-    requires { MOST ≤ most_tokens }
-    ensures { Outcome MOST entry (line kinds.entry text.entry pairs.entry) rows.old (told result) rows.new }
-{
-    if kinds.len() > MOST {
-        return Err(Refusal::TooManyTokens);
-    }
-    parse_short_attr_list::<MOST>(entry, kinds, text, pairs, rows)
-}
 
 // Reads the attribute list of a block.
 pub fn parse_block_attr_list(

@@ -1,7 +1,7 @@
-// The four readings of a line that is known to be short, for a reader that has no memory for an array of 4,096 numbers: they are the main reader's, with
-// the commas of a list in an array of MOST numbers. Written beside `parse_attr_list`, and not with it in one function, so that the main reader is
-// compiled and proved as it was.
-ghost use Rattle.std.specs.Prelude.{◌*◌, ◌≤◌, length};
+// The four readings with a limit of tokens that is lower than the main reader's, for a reader that has no memory for an array of 4,096 numbers: the commas
+// of a list are in an array of MOST numbers. Written beside `parse_attr_list`, and not with it in one function, so that the main reader is compiled and
+// proved as it was. What a limit does is said in specs/Limit.antt, and proved once for any (LimitLaws).
+ghost use Rattle.std.specs.Prelude.{◌*◌, ◌≤◌, length, min};
 ghost use Rattle.token.specs.Checked.{line_in};
 ghost use Rattle.token.specs.Lent.{line};
 ghost use Rattle.token.specs.Line.{most_tokens};
@@ -12,14 +12,15 @@ ghost use Rattle.attr_list.specs.Reading.{Gives, list_of, link_to};
 ghost use Rattle.attr_list.specs.Told.{told};
 ghost use Rattle.attr_list.specs.Outcome.{Outcome};
 
-use super::Read;
 use super::brackets::{Held, read_list_in, read_text};
 use super::entries::Entry;
+use super::{Read, parse_attr_list};
 use closing::{LinkMacro, link_macro};
 use refusals::Refusal;
 use row::has_room;
 use token::kind::TokenKind;
 use token::lent::Line;
+use token::line::MOST_TOKENS;
 
 // Reads a list of at most MOST tokens.
 fn read_short_list<const MOST: usize>(
@@ -50,8 +51,8 @@ fn read_short_link<const MOST: usize>(held: Held<'_>, rows: &mut [u32]) -> Resul
     }
 }
 
-// Reads a line of at most MOST tokens by an entry, as `parse_attr_list` does. Not inlined, so that the four entries of a small reader share it.
-pub fn parse_short_attr_list<const MOST: usize>(
+// Reads a line of at most MOST tokens by an entry, as `parse_attr_list` does.
+fn parse_short_attr_list<const MOST: usize>(
     entry: Entry,
     kinds: &[u8],
     text: &[u8],
@@ -78,4 +79,24 @@ pub fn parse_short_attr_list<const MOST: usize>(
         Entry::Link => read_short_link::<MOST>(held, rows),
         _ => read_short_list::<MOST>(held, entry, rows),
     }
+}
+
+// Reads a line by an entry, as `parse_attr_list` does, but refuses one of more than MOST tokens. A limit over the main reader's is the main reader's. Not
+// inlined, so that the four entries of a small reader share it.
+pub fn parse_attr_list_within<const MOST: usize>(
+    entry: Entry,
+    kinds: &[u8],
+    text: &[u8],
+    pairs: &[u32],
+    rows: &mut [u32],
+) -> Result<Read, Refusal>
+    ensures { Outcome (min MOST most_tokens) entry (line kinds.entry text.entry pairs.entry) rows.old (told result) rows.new }
+{
+    if MOST > MOST_TOKENS {
+        return parse_attr_list(entry, kinds, text, pairs, rows);
+    }
+    if kinds.len() > MOST {
+        return Err(Refusal::TooManyTokens);
+    }
+    parse_short_attr_list::<MOST>(entry, kinds, text, pairs, rows)
 }

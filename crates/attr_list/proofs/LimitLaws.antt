@@ -9,7 +9,7 @@ use Rattle.attr_list.specs.Answer.{Answer, Refused}
 use Rattle.attr_list.specs.Reading.{refused, lent_refusal, reading}
 use Rattle.attr_list.specs.Outcome.{Outcome}
 use Rattle.attr_list.proofs.Readings.{gives_as, gives-refused, gives-outcome}
-use Rattle.viewer.specs.Limit.{limited}
+use Rattle.attr_list.specs.Limit.{limited}
 
 module _ (most : ℕ) (up_to : most ≤ most_tokens) (e : Entry) (l : Line) where
   -- a line that fits: the two limits do not tell, and the rest of the checks are the same

@@ -4,7 +4,7 @@ use Rattle.std.proofs.lemmas.Result.{err_from_is_err_and}
 use Rattle.token.specs.Line.{line_of, most_tokens}
 use Rattle.attr_list.specs.Reading.{read_by}
 use Rattle.attr_list.proofs.Readings.{outcome-line, outcome-room, outcome-read, closed-gives, outcome-list, outcome-link}
-use Rattle.attr_list.proofs.short.parse_short_attr_list.Goals as goal
+use Rattle.attr_list.proofs.within.parse_short_attr_list.Goals as goal
 
 pub returns-in_err-line : goal.returns-in_err-line
 returns-in_err-line g c =

@@ -2,8 +2,9 @@
  * Random and damaged calls of every exported function, for a memory checker. Each buffer is
  * allocated with exactly the size that the call names, so that one byte too far is seen; the row
  * buffer is not set beforehand in half of the calls, so that reading it is seen too. Looks also at
- * what every answer must keep: the refusal is of the table, 2 is given exactly where the reader's
- * limit of tokens is passed, a refused call leaves the row buffer and the set, no number behind the rows changes, every row has a tag, runs in the line and a quote
+ * what every answer must keep: the refusal is of the table, 1 is given exactly where there is no
+ * token and 2 where the reader's limit is passed, the viewer answers as the main reader does within
+ * its limit, a refused call leaves the row buffer and the set, no number behind the rows changes, every row has a tag, runs in the line and a quote
  * mark that its tag may have, and no more commas are taken back than are counted.
  *
  *   memory CALLS SEED
@@ -170,6 +171,19 @@ static void look_at_rows(const struct line *l, const uint32_t *rows, telfjost_li
     }
 }
 
+/* the viewer answered a for a line within its limit: so does the main reader, with the same rows */
+static void as_the_main_reader(const struct line *l, int entry, const uint32_t *rows, size_t room,
+                               telfjost_list a) {
+    uint32_t *again = exactly(room * sizeof *again);
+    telfjost_list b = readings[0][entry](l->kinds, l->tokens, l->text, l->bytes, l->pairs,
+                                         l->numbers, again, room);
+    if (memcmp(&a, &b, sizeof a) != 0)
+        wrong("the viewer and the main reader answer differently");
+    if (a.rows != 0 && memcmp(rows, again, ROW * a.rows * sizeof *rows) != 0)
+        wrong("the viewer and the main reader write other rows");
+    free(again);
+}
+
 static void one_list(void) {
     struct line l = some_line();
     if (below(3) == 0)
@@ -184,12 +198,17 @@ static void one_list(void) {
             rows[i] = before[i] = below(0xffffffffu);
     }
     bool viewer = below(2);
-    telfjost_list a = readings[viewer][below(4)](l.kinds, l.tokens, l.text, l.bytes, l.pairs,
-                                                 l.numbers, rows, room);
+    int entry = (int)below(4);
+    telfjost_list a =
+        readings[viewer][entry](l.kinds, l.tokens, l.text, l.bytes, l.pairs, l.numbers, rows, room);
     if (a.refusal > 8)
         wrong("no such refusal");
-    if (l.tokens != 0 && (a.refusal == 2) != (l.tokens > (viewer ? VIEWER_TOKENS : 4096)))
+    if ((a.refusal == 1) != (l.tokens == 0))
+        wrong("1 for a line of tokens, or another number for none");
+    if ((a.refusal == 2) != (l.tokens > (viewer ? VIEWER_TOKENS : 4096)))
         wrong("2 for another limit");
+    if (viewer && l.tokens <= VIEWER_TOKENS)
+        as_the_main_reader(&l, entry, rows, room, a);
     if (a.refusal != 0 && (a.rows != 0 || a.consumed != 0 || a.rejoined != 0))
         wrong("a refusal with rows, tokens or commas");
     size_t written = ROW * a.rows;

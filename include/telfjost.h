@@ -22,7 +22,7 @@
  *
  * A refusal is 0 where a call is answered, else the first of these that applies:
  *   1  no tokens
- *   2  over 4,096 tokens; by the viewer's functions over 256
+ *   2  over 4,096 tokens; for the small viewer over 256
  *   3  the text is over 65,535 bytes
  *   4  not two numbers in `pairs` for each kind
  *   5  some kind is over 50
@@ -135,9 +135,10 @@ telfjost_list telfjost_link_macro_attr_list(const uint8_t *kinds, size_t kinds_l
 
 /*
  * The small viewer's: the four readings for lines of at most 256 tokens, in less memory. A line of
- * more is refused with 2, whatever else is wrong with it. Of any other line each function answers,
- * refuses and writes what the one above does whose name it has behind `viewer_`. A call takes
- * under 2,048 bytes of stack, where one above takes over 8,192 (docs/VIEWER.md).
+ * more is refused with 2, whatever else is wrong with it. On any other line
+ * telfjost_viewer_block_attr_list answers, refuses and writes exactly as telfjost_block_attr_list
+ * does, and so the other three. A call takes at most 1,528 bytes of stack, as measured, where one
+ * above takes up to 9,192 (docs/VIEWER.md).
  */
 telfjost_list telfjost_viewer_block_attr_list(const uint8_t *kinds, size_t kinds_len,
                                               const uint8_t *text, size_t text_len,

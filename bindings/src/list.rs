@@ -291,14 +291,14 @@ pub enum Entry {
     LinkMacro,
 }
 
-/// Up to how many tokens a line is read. Of a line that is within both limits all entries answer the
-/// same.
+/// Up to how many tokens a line is read. A line within both limits has the same answer under each, entry
+/// by entry.
 #[derive(Debug, Clone, Copy, PartialEq, Eq, Hash, Default)]
 pub enum Limit {
     /// The main reader's: 4,096.
     #[default]
     Main,
-    /// The small viewer's: 256. A call takes under 2,048 bytes of stack (docs/VIEWER.md).
+    /// The small viewer's: 256. A call takes little of the stack (docs/VIEWER.md).
     Viewer,
 }
 

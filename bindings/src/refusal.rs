@@ -36,7 +36,7 @@ pub enum Refusal {
 /// Where it is checked, and exactly when it applies: the words of docs/RULES.md.
 const WORDS: [(Refusal, &str, &str); 11] = [
     (Refusal::NoTokens, "line", "no tokens"),
-    (Refusal::TooManyTokens, "line", "over 4,096 tokens, the viewer: over 256"),
+    (Refusal::TooManyTokens, "line", "over 4,096 tokens; for the small viewer over 256"),
     (Refusal::TextTooLong, "text of a line", "over 65,535 bytes"),
     (Refusal::PairsNotTwo, "pairs", "not two numbers for each kind"),
     (Refusal::KindTooLarge, "kinds", "some kind over 50"),

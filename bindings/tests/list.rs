@@ -184,28 +184,40 @@ fn the_longest_line_of_the_viewer_and_one_more() {
     let commas = |n: usize| -> Line {
         (0..n).map(|_| (Kind::Comma, ",")).chain([(Kind::CloseBracket, "]")]).collect()
     };
+    let (longest, more) = (commas(255), commas(256));
+    let mut viewer = Reader::with_limit(Limit::Viewer);
     for entry in [Entry::Block, Entry::BlockMacro, Entry::InlineMacro, Entry::LinkMacro] {
-        let mut viewer = Reader::with_limit(Limit::Viewer);
-        let longest = commas(255);
         let given = longest.lent().read(entry);
-        assert!(given.is_ok(), "{entry:?}");
+        assert!(given.is_ok() && more.lent().read(entry).is_ok(), "{entry:?}");
         assert_eq!(viewer.read(entry, &longest), given, "{entry:?}");
-        let more = commas(256);
-        assert!(more.lent().read(entry).is_ok(), "{entry:?}");
         assert_eq!(viewer.read(entry, &more), Err(Refusal::TooManyTokens), "{entry:?}");
-        // 2 comes before what else is wrong with a line, and 1 before 2
-        let mut closed_by_none = commas(256);
-        closed_by_none.push(Kind::Word, "a");
-        assert_eq!(viewer.read(entry, &closed_by_none), Err(Refusal::TooManyTokens), "{entry:?}");
-        assert_eq!(
-            viewer.read(entry, Lent { kinds: &[51; 257], text: &[], pairs: &[] }),
-            Err(Refusal::TooManyTokens)
-        );
-        assert_eq!(
-            viewer.read(entry, Lent { kinds: &[51; 256], text: &[], pairs: &[0; 512] }),
-            Err(Refusal::KindTooLarge)
-        );
-        assert_eq!(viewer.read(entry, &Line::new()), Err(Refusal::NoTokens), "{entry:?}");
+        assert_eq!(more.lent().read_within(Limit::Viewer, entry), Err(Refusal::TooManyTokens), "{entry:?}");
+        // and after a refusal it reads on
+        assert_eq!(viewer.read(entry, &longest), given, "{entry:?}");
+    }
+}
+
+#[test]
+fn the_viewers_limit_in_the_order_of_refusals() {
+    let mut viewer = Reader::with_limit(Limit::Viewer);
+    let long = vec![b'a'; 65_536];
+    let words = [Kind::Word.number(); 257];
+    let pairs = [0; 514];
+    for entry in [Entry::Block, Entry::BlockMacro, Entry::InlineMacro, Entry::LinkMacro] {
+        let mut read = |kinds, text, pairs| viewer.read(entry, Lent { kinds, text, pairs }).map(|_| ());
+        // over the limit it is 2, whatever else is wrong
+        assert_eq!(read(&words, &long, &pairs), Err(Refusal::TooManyTokens), "{entry:?}");
+        assert_eq!(read(&words, b"", &[]), Err(Refusal::TooManyTokens), "{entry:?}");
+        assert_eq!(read(&[51; 257], b"", &pairs), Err(Refusal::TooManyTokens), "{entry:?}");
+        assert_eq!(read(&words, b"", &[1; 514]), Err(Refusal::TooManyTokens), "{entry:?}");
+        assert_eq!(read(&words, b"", &pairs), Err(Refusal::TooManyTokens), "{entry:?}");
+        // within it each has its number
+        assert_eq!(read(&words[..256], &long, &pairs[..512]), Err(Refusal::TextTooLong), "{entry:?}");
+        assert_eq!(read(&words[..256], b"", &[]), Err(Refusal::PairsNotTwo), "{entry:?}");
+        assert_eq!(read(&[51; 256], b"", &pairs[..512]), Err(Refusal::KindTooLarge), "{entry:?}");
+        assert_eq!(read(&words[..256], b"", &[1; 512]), Err(Refusal::PairsNotInOrder), "{entry:?}");
+        assert_eq!(read(&words[..256], b"", &pairs[..512]), Err(Refusal::NoClosingBracket), "{entry:?}");
+        assert_eq!(read(&[], b"", &[]), Err(Refusal::NoTokens), "{entry:?}");
     }
 }
 

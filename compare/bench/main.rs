@@ -43,7 +43,7 @@ use page::Measured;
 use rust_side::{ENTRIES, Entry, Lent, Mode, NORMAL, ROW};
 use stand_in::Bump;
 
-/// 64 and 256 are the most tokens whose commas fit the smaller arrays of the reader.
+/// 64 tokens fit the main reader's small array of commas, and 256 the viewer's; 65 and 257 do not.
 const LENGTHS: [usize; 10] = [3, 8, 20, 64, 65, 100, 256, 257, 1000, 4096];
 const OF_THE_VIEWER: [usize; 4] = [3, 64, 65, 256];
 

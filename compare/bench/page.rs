@@ -156,9 +156,9 @@ fn targets(tables: &[Table]) -> Vec<String> {
         .collect();
     let slower_texts = (!slower_texts.is_empty()).then(|| slower_texts.join("; "));
     vec![
-        verdict("At least 5 times the Rust's speed on every line of the four readings", slow),
+        verdict("At least 5 times the Rust's speed on every line of the main reader's four readings", slow),
         verdict("ns per token on the mix flat within 1.5 from 20 to 4,096 tokens", bent),
-        verdict("No line of the four readings on which the Rust is faster", slower),
+        verdict("No line of the main reader's four readings on which the Rust is faster", slower),
         verdict("No subs text on which the Rust is faster", slower_texts),
     ]
 }

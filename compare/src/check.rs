@@ -29,7 +29,7 @@ pub struct Tally {
     pub moves: [u64; 6],
     pub yes: u64,
     pub other_closing: u64,
-    /// Lines read by the viewer too, by what is due of it: see `VIEWED`.
+    /// Calls of the viewer, by what is due of it: see `VIEWED`.
     pub viewed: [u64; 4],
     pub panics: BTreeMap<String, u64>,
 }
@@ -163,7 +163,7 @@ impl<'l> Worker<'l> {
         self.tally.refusals[refusal] += 1;
     }
 
-    /// What the documents ask of a list's entry; the rows are left in `self.rows()`.
+    /// What the documents ask of the main reader's entry; the rows are left in `self.rows()`.
     pub fn expected(
         &mut self,
         entry: Entry,

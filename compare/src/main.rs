@@ -133,7 +133,7 @@ fn report(tally: &Tally, seconds: f64) {
     if tally.viewed.iter().any(|n| *n > 0) {
         let due: Vec<String> =
             VIEWED.iter().zip(tally.viewed).map(|(due, n)| format!("{due} {}", grouped(n))).collect();
-        println!("lists and links by what is due of the viewer: {}", due.join("; "));
+        println!("calls of the viewer by what is due of it: {}", due.join("; "));
     }
     let counted = [
         ("lines in which commas were taken back, and more stand inside pairs of quotes", tally.crossing),

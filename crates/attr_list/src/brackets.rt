@@ -72,8 +72,8 @@ pub(crate) fn read_list(held: Held<'_>, entry: Entry, rows: &mut [u32]) -> Resul
     read_list_in(held, entry, &mut commas, rows)
 }
 
-// Reads a link's text, which ends before the token at `end`. Inlined, so that the main reader's call is compiled as it was when it was
-// the only one.
+// Reads a link's text, which ends before the token at `end`. Inlined: the archive calls it for the main reader and for the small
+// viewer, and the main reader's link is to be compiled as before.
 #[inline(always)]
 pub(crate) fn read_text(line: Line<'_>, end: TokenPlace, rows: &mut [u32]) -> Result<Read, Refusal>
     requires room { width * length line.kinds.now ≤ length rows.old }

@@ -23,7 +23,7 @@ use token::lent::Line;
 use token::line::MOST_TOKENS;
 
 // Reads a list of at most MOST tokens.
-fn read_short_list<const MOST: usize>(
+fn read_list_within<const MOST: usize>(
     held: Held<'_>,
     entry: Entry,
     rows: &mut [u32],
@@ -38,7 +38,7 @@ fn read_short_list<const MOST: usize>(
 }
 
 // Reads what a link's brackets hold, of a line of at most MOST tokens.
-fn read_short_link<const MOST: usize>(held: Held<'_>, rows: &mut [u32]) -> Result<Read, Refusal>
+fn read_link_within<const MOST: usize>(held: Held<'_>, rows: &mut [u32]) -> Result<Read, Refusal>
     requires room { width * length held.line.kinds.now ≤ length rows.old }
     requires short { length held.line.kinds.now ≤ MOST }
     requires few { MOST ≤ most_tokens }
@@ -46,13 +46,13 @@ fn read_short_link<const MOST: usize>(held: Held<'_>, rows: &mut [u32]) -> Resul
 {
     let line = held.line;
     match link_macro(line.kinds, line.pairs) {
-        LinkMacro::AsList => read_short_list::<MOST>(held, Entry::Inline, rows),
+        LinkMacro::AsList => read_list_within::<MOST>(held, Entry::Inline, rows),
         LinkMacro::AsText(end) => read_text(line, end, rows),
     }
 }
 
 // Reads a line of at most MOST tokens by an entry, as `parse_attr_list` does.
-fn parse_short_attr_list<const MOST: usize>(
+fn parse_within<const MOST: usize>(
     entry: Entry,
     kinds: &[u8],
     text: &[u8],
@@ -76,13 +76,14 @@ fn parse_short_attr_list<const MOST: usize>(
     }
     let held = Held { line };
     match entry {
-        Entry::Link => read_short_link::<MOST>(held, rows),
-        _ => read_short_list::<MOST>(held, entry, rows),
+        Entry::Link => read_link_within::<MOST>(held, rows),
+        _ => read_list_within::<MOST>(held, entry, rows),
     }
 }
 
-// Reads a line by an entry, as `parse_attr_list` does, but refuses one of more than MOST tokens. A limit over the main reader's is the main reader's. Not
-// inlined, so that the four entries of a small reader share it.
+// Reads a line by an entry, as `parse_attr_list` does, but refuses one of more than MOST tokens. A limit over the main reader's is the main reader's. Never
+// inlined: the four entries of a small reader share it.
+#[inline(never)]
 pub fn parse_attr_list_within<const MOST: usize>(
     entry: Entry,
     kinds: &[u8],
@@ -98,5 +99,5 @@ pub fn parse_attr_list_within<const MOST: usize>(
     if kinds.len() > MOST {
         return Err(Refusal::TooManyTokens);
     }
-    parse_short_attr_list::<MOST>(entry, kinds, text, pairs, rows)
+    parse_within::<MOST>(entry, kinds, text, pairs, rows)
 }

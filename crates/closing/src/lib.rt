@@ -45,7 +45,7 @@ pub fn closing_bracket(kinds: &[u8], commas: &[u16], full: bool) -> Option<Token
 }
 
 // Whether a link's brackets hold a list, or text and where it ends. All tokens but the last are looked at. Kinds and pairs are two slices, since C
-// lends them so. Inlined, so that the main reader's call is compiled as it was when it was the only one.
+// lends them so. Inlined: the archive calls it for the main reader and for the small viewer, and the main reader's link is to be compiled as before.
 #[inline(always)]
 pub fn link_macro(kinds: &[u8], pairs: &[u32]) -> LinkMacro
     requires { length pairs.now ≡ 2 * length kinds.now }

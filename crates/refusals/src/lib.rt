@@ -14,7 +14,7 @@ use std::fmt;
 pub enum Refusal {
     // line: no tokens
     NoTokens = 1,
-    // line: over 4,096 tokens
+    // line: over 4,096 tokens, by the small viewer over 256; its words name the main reader's limit
     TooManyTokens,
     // text of a line: over 65,535 bytes
     TextTooLong,

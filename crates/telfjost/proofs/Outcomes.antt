@@ -31,8 +31,8 @@ module _ (most : ℕ) (e : Entry) (l : Line) (given left : List ℕ) (r : Telfjo
       (subst (λ (x : ℕ). ReadAsList most e l given rows x r.rejoined left) (sym w.consumed)
       (subst (λ (x : ℕ). ReadAsList most e l given rows consumed x left) (sym w.rejoined) (s t)))
 
-  pub outcome_within : (a : Answer) → Outcome most e l given a left → NumbersOf a r → OutcomeWithin most e l given r left
-  outcome_within a o w =
+  pub numbers_within : (a : Answer) → Outcome most e l given a left → NumbersOf a r → OutcomeWithin most e l given r left
+  numbers_within a o w =
       let given_by = reading most e l (length given) in
       record {
         numbers = subst (λ (x : Answer). NumbersOf x r) o.answer w;
@@ -42,4 +42,4 @@ module _ (most : ℕ) (e : Entry) (l : Line) (given left : List ℕ) (r : Telfjo
 
 -- the main reader's
 pub list-outcome : (e : Entry) (l : Line) (given left : List ℕ) (r : TelfjostList) (a : Answer) → Outcome most_tokens e l given a left → NumbersOf a r → ListOutcome e l given r left
-list-outcome = outcome_within most_tokens
+list-outcome = numbers_within most_tokens

@@ -1,4 +1,4 @@
-// The four readings, a function for each name that C links.
+// The main reader's four readings, a function for each name that C links.
 ghost use Rattle.token.specs.Lent.{line};
 ghost use Rattle.attr_list.specs.declared.entries.Entry.TheVariants.{Block, BlockMacro, Inline, Link};
 ghost use Rattle.telfjost.specs.Outcome.{ListNumbers, ListOutcome};

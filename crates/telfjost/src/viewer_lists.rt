@@ -6,7 +6,7 @@ ghost use Rattle.telfjost.specs.Outcome.{ViewerOutcome};
 use super::TelfjostList;
 
 // The attribute list of a block.
-#[tactic(auto, using(crate::proofs::Outcomes::outcome_within))]
+#[tactic(auto, using(crate::proofs::Outcomes::numbers_within))]
 #[unsafe(no_mangle)]
 pub extern "C" fn telfjost_viewer_block_attr_list<'a, 'b>(
     kinds: &'a [u8],
@@ -20,7 +20,7 @@ pub extern "C" fn telfjost_viewer_block_attr_list<'a, 'b>(
 }
 
 // The attribute list of a block macro.
-#[tactic(auto, using(crate::proofs::Outcomes::outcome_within))]
+#[tactic(auto, using(crate::proofs::Outcomes::numbers_within))]
 #[unsafe(no_mangle)]
 pub extern "C" fn telfjost_viewer_block_macro_attr_list<'a, 'b>(
     kinds: &'a [u8],
@@ -34,7 +34,7 @@ pub extern "C" fn telfjost_viewer_block_macro_attr_list<'a, 'b>(
 }
 
 // The attribute list of an inline macro.
-#[tactic(auto, using(crate::proofs::Outcomes::outcome_within))]
+#[tactic(auto, using(crate::proofs::Outcomes::numbers_within))]
 #[unsafe(no_mangle)]
 pub extern "C" fn telfjost_viewer_inline_macro_attr_list<'a, 'b>(
     kinds: &'a [u8],
@@ -48,7 +48,7 @@ pub extern "C" fn telfjost_viewer_inline_macro_attr_list<'a, 'b>(
 }
 
 // What a link macro's brackets hold.
-#[tactic(auto, using(crate::proofs::Outcomes::outcome_within))]
+#[tactic(auto, using(crate::proofs::Outcomes::numbers_within))]
 #[unsafe(no_mangle)]
 pub extern "C" fn telfjost_viewer_link_macro_attr_list<'a, 'b>(
     kinds: &'a [u8],

@@ -1,5 +1,5 @@
 // The small viewer: the four readings of the crate `attr_list` for lines of 256 tokens at most. What an entry answers and leaves is `Outcome`, as the
-// main reader's is, with this limit; what a limit does is proved there once for any.
+// main reader's is, with this limit. What a limit does is proved once for any, `reading-limited` of `attr_list/proofs/LimitLaws.antt`.
 #![tactic(auto)]
 
 ghost use Rattle.token.specs.Lent.{line};

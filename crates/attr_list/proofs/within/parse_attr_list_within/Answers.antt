@@ -17,4 +17,4 @@ pub returns : goal.returns
 returns g c =
     let a = c.args in
     let e : min g.row.MOST most_tokens ≡ g.row.MOST = min-eq_left c.if-this-gt-MOST_TOKENS.false in
-    rw e (outcome-within g.row.MOST c.if-this-gt-MOST_TOKENS.false a.entry (line_of a.kinds.now a.text.now a.pairs.now) a.rows.now c.if-kinds.false (told c.parse_short_attr_list.result) c.parse_short_attr_list.new.rows c.parse_short_attr_list.ensures)
+    rw e (outcome-within g.row.MOST c.if-this-gt-MOST_TOKENS.false a.entry (line_of a.kinds.now a.text.now a.pairs.now) a.rows.now c.if-kinds.false (told c.parse_within.result) c.parse_within.new.rows c.parse_within.ensures)

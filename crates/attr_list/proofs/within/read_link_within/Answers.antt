@@ -1,6 +1,6 @@
--- `read_short_link` reads as the look says. Assumes nothing.
+-- `read_link_within` reads as the look says. Assumes nothing.
 use Rattle.attr_list.proofs.Readings.{text-among}
-use Rattle.attr_list.proofs.within.read_short_link.Goals as goal
+use Rattle.attr_list.proofs.within.read_link_within.Goals as goal
 
 pub read_text-requires-clause-among : goal.read_text-requires-clause-among
 read_text-requires-clause-among g c =

@@ -4,7 +4,7 @@ use Rattle.std.proofs.lemmas.Result.{err_from_is_err_and}
 use Rattle.token.specs.Line.{line_of, most_tokens}
 use Rattle.attr_list.specs.Reading.{read_by}
 use Rattle.attr_list.proofs.Readings.{outcome-line, outcome-room, outcome-read, closed-gives, outcome-list, outcome-link}
-use Rattle.attr_list.proofs.within.parse_short_attr_list.Goals as goal
+use Rattle.attr_list.proofs.within.parse_within.Goals as goal
 
 pub returns-in_err-line : goal.returns-in_err-line
 returns-in_err-line g c =
@@ -23,9 +23,9 @@ returns-then-kinds g c =
 pub returns-in-Link : goal.returns-in-Link
 returns-in-Link g c =
     let a = c.args in
-    outcome-link most_tokens a.entry (line_of a.kinds.now a.text.now a.pairs.now) _ a.rows.now c.in_ok-line.ensures.accepted (sym c.has_room.ensures ∙ c.if-not-has_room.false) c.if-kinds.false c.in_ok-line.ensures.same _ _ c.in-Link.is c.read_short_link.ensures
+    outcome-link most_tokens a.entry (line_of a.kinds.now a.text.now a.pairs.now) _ a.rows.now c.in_ok-line.ensures.accepted (sym c.has_room.ensures ∙ c.if-not-has_room.false) c.if-kinds.false c.in_ok-line.ensures.same _ _ c.in-Link.is c.read_link_within.ensures
 
 pub returns-in_default : goal.returns-in_default
 returns-in_default g c =
     let a = c.args in
-    outcome-list most_tokens a.entry (line_of a.kinds.now a.text.now a.pairs.now) _ a.rows.now c.in_ok-line.ensures.accepted (sym c.has_room.ensures ∙ c.if-not-has_room.false) c.if-kinds.false c.in_ok-line.ensures.same _ _ c.in_default.not-Link c.read_short_list.ensures
+    outcome-list most_tokens a.entry (line_of a.kinds.now a.text.now a.pairs.now) _ a.rows.now c.in_ok-line.ensures.accepted (sym c.has_room.ensures ∙ c.if-not-has_room.false) c.if-kinds.false c.in_ok-line.ensures.same _ _ c.in_default.not-Link c.read_list_within.ensures

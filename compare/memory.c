@@ -4,8 +4,9 @@
  * buffer is not set beforehand in half of the calls, so that reading it is seen too. Looks also at
  * what every answer must keep: the refusal is of the table, 1 is given exactly where there is no
  * token and 2 where the reader's limit is passed, the viewer answers as the main reader does within
- * its limit, a refused call leaves the row buffer and the set, no number behind the rows changes, every row has a tag, runs in the line and a quote
- * mark that its tag may have, and no more commas are taken back than are counted.
+ * its limit, a refused call leaves the row buffer and the set, no number behind the rows changes,
+ * every row has a tag, runs in the line and a quote mark that its tag may have, and no more commas
+ * are taken back than are counted.
  *
  *   memory CALLS SEED
  */

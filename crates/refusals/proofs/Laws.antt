@@ -2,7 +2,7 @@
 use Rattle.std.specs.Prelude.{ℕ, zero, suc, ◌<◌, ◌≡◌, refl}
 use Rattle.std.proofs.Common.{arith, sym, ap, ◌∙◌}
 use Rattle.refusals.specs.declared.Refusal.{Refusal}
-use Rattle.refusals.specs.declared.Refusal.TheVariants.{NoTokens, TooManyTokens, TextTooLong, PairsNotTwo, KindTooLarge, PairsNotInOrder, RowsTooShort, NoClosingBracket, SubsTextTooLong, SetNotHeld, SetNotSound}
+use Rattle.refusals.specs.declared.Refusal.TheVariants.{NoTokens, TooManyTokens, TextTooLong, PairsNotTwo, KindTooLarge, PairsNotInOrder, RowsTooShort, NoClosingBracket, SubsTextTooLong, SetNotHeld, SetNotSound, AnchorMalformed}
 use Rattle.refusals.specs.Numbered.{number_of}
 
 pub number-some : (r : Refusal) → 0 < number_of r
@@ -17,6 +17,7 @@ number-some NoClosingBracket = omega arith
 number-some SubsTextTooLong = omega arith
 number-some SetNotHeld = omega arith
 number-some SetNotSound = omega arith
+number-some AnchorMalformed = omega arith
 
 -- the refusal of a number
 of_number : ℕ → Refusal
@@ -31,7 +32,8 @@ of_number (suc (suc (suc (suc (suc (suc (suc zero))))))) = RowsTooShort
 of_number (suc (suc (suc (suc (suc (suc (suc (suc zero)))))))) = NoClosingBracket
 of_number (suc (suc (suc (suc (suc (suc (suc (suc (suc zero))))))))) = SubsTextTooLong
 of_number (suc (suc (suc (suc (suc (suc (suc (suc (suc (suc zero)))))))))) = SetNotHeld
-of_number n = SetNotSound
+of_number (suc (suc (suc (suc (suc (suc (suc (suc (suc (suc (suc zero))))))))))) = SetNotSound
+of_number n = AnchorMalformed
 
 of-number : (r : Refusal) → of_number (number_of r) ≡ r
 unfolding of_number
@@ -46,6 +48,7 @@ of-number NoClosingBracket = refl
 of-number SubsTextTooLong = refl
 of-number SetNotHeld = refl
 of-number SetNotSound = refl
+of-number AnchorMalformed = refl
 
 pub number-same : (r s : Refusal) → number_of r ≡ number_of s → r ≡ s
 number-same r s e = sym (of-number r) ∙ ap of_number e ∙ of-number s

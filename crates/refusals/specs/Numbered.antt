@@ -1,8 +1,8 @@
 -- The refusals of the code, each with its number of the table.
 use Rattle.std.specs.Prelude.{ℕ, ◌≡◌, Result, Ok, Err}
 use Rattle.refusals.specs.declared.Refusal.{Refusal}
-use Rattle.refusals.specs.declared.Refusal.TheVariants.{NoTokens, TooManyTokens, TextTooLong, PairsNotTwo, KindTooLarge, PairsNotInOrder, RowsTooShort, NoClosingBracket, SubsTextTooLong, SetNotHeld, SetNotSound}
-use Rattle.refusals.specs.Refusals.{no_tokens, too_many_tokens, text_too_long, pairs_not_two, kind_too_large, pairs_not_in_order, rows_too_short, no_closing_bracket, subs_text_too_long, set_not_held, set_not_sound}
+use Rattle.refusals.specs.declared.Refusal.TheVariants.{NoTokens, TooManyTokens, TextTooLong, PairsNotTwo, KindTooLarge, PairsNotInOrder, RowsTooShort, NoClosingBracket, SubsTextTooLong, SetNotHeld, SetNotSound, AnchorMalformed}
+use Rattle.refusals.specs.Refusals.{no_tokens, too_many_tokens, text_too_long, pairs_not_two, kind_too_large, pairs_not_in_order, rows_too_short, no_closing_bracket, subs_text_too_long, set_not_held, set_not_sound, anchor_malformed}
 
 abbrev pub number_of : Refusal → ℕ
 number_of NoTokens = no_tokens
@@ -16,6 +16,7 @@ number_of NoClosingBracket = no_closing_bracket
 number_of SubsTextTooLong = subs_text_too_long
 number_of SetNotHeld = set_not_held
 number_of SetNotSound = set_not_sound
+number_of AnchorMalformed = anchor_malformed
 
 abbrev pub Gives : Refusal → ℕ → Type 0
 Gives r n = n ≡ number_of r

@@ -45,7 +45,11 @@ set_not_held = 10
 abbrev pub set_not_sound : ℕ
 set_not_sound = 11
 
+-- line of an anchor, after 1 to 6 and after "no anchor": it "runs out, does not close as said, or has an id of no bytes" (document 02, slip 1)
+abbrev pub anchor_malformed : ℕ
+anchor_malformed = 12
+
 -- all of them, in the order of the table
 abbrev pub numbers : List ℕ
 numbers =
-    no_tokens ∷ too_many_tokens ∷ text_too_long ∷ pairs_not_two ∷ kind_too_large ∷ pairs_not_in_order ∷ rows_too_short ∷ no_closing_bracket ∷ subs_text_too_long ∷ set_not_held ∷ set_not_sound ∷ []
+    no_tokens ∷ too_many_tokens ∷ text_too_long ∷ pairs_not_two ∷ kind_too_large ∷ pairs_not_in_order ∷ rows_too_short ∷ no_closing_bracket ∷ subs_text_too_long ∷ set_not_held ∷ set_not_sound ∷ anchor_malformed ∷ []

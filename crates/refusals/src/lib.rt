@@ -34,6 +34,8 @@ pub enum Refusal {
     SetNotHeld,
     // set, sheet mode: held but not sound
     SetNotSound,
+    // line of an anchor, after the checks of a line and after "no anchor": it runs out, does not close as said, or its id has no bytes
+    AnchorMalformed,
 }
 
 impl From<Refusal> for usize {
@@ -63,12 +65,15 @@ impl fmt::Display for Refusal {
             Refusal::SubsTextTooLong => "the subs text is over 65,535 bytes",
             Refusal::SetNotHeld => "the set is not held",
             Refusal::SetNotSound => "the set is held but not sound",
+            Refusal::AnchorMalformed => {
+                "the anchor does not close as it should, or its id has no bytes"
+            }
         })
     }
 }
 
 // Every number, in the order of the table; each by the name of its refusal, since an enum does not list its cases.
-pub fn all() -> [usize; 11]
+pub fn all() -> [usize; 12]
     ensures { result ≡ numbers }
 {
     [
@@ -83,6 +88,7 @@ pub fn all() -> [usize; 11]
         Refusal::SubsTextTooLong as usize,
         Refusal::SetNotHeld as usize,
         Refusal::SetNotSound as usize,
+        Refusal::AnchorMalformed as usize,
     ]
 }
 

@@ -1,0 +1,3 @@
+pub mod Anchor
+pub mod Numbers
+pub mod Anchored

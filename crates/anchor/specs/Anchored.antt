@@ -1,10 +1,10 @@
 -- Anchors in words, place by place: nothing here knows how an end is looked for. That these are the anchors that are read, and no others, and when 12 is
 -- due, are the laws `anchored-only`, `anchored-read` and `malformed` (proofs/AnchoredLaws.antt).
-use Rattle.std.specs.Prelude.{ℕ, ◌+◌, ◌-◌, ◌<◌, Bool, true, false, ◌≡◌, ◌⊎◌, List, length, drop, min}
+use Rattle.std.specs.Prelude.{ℕ, ◌+◌, ◌-◌, ◌≤◌, ◌<◌, Bool, true, false, ◌≡◌, ◌⊎◌, List, length, drop, min}
 use Rattle.token.specs.Kind.{close_bracket, comma, kind_at}
-use Rattle.token.specs.Line.{Line, length_in, run, empty_run}
+use Rattle.token.specs.Line.{Line, length_in, most_tokens, refusal, run, empty_run}
 use Rattle.anchor.specs.Numbers.{Numbers, found}
-use Rattle.anchor.specs.Anchor.{ends_id, text_run, counts_as_discard}
+use Rattle.anchor.specs.Anchor.{begins_none, ends_id, text_run, counts_as_discard}
 
 -- the id is the first n tokens: the one after them is the line's first Comma or CloseBracket, and some token of the id has bytes
 pub record IsId (l : Line) (n : ℕ) : Type 0 where
@@ -45,3 +45,23 @@ pub record WithText (is_entire_line : Bool) (l : Line) (a : Numbers) : Type 0 wh
 
 abbrev pub Anchored : (is_entire_line : Bool) → Line → Numbers → Type 0
 Anchored is_entire_line l a = IdAlone l a ⊎ WithText is_entire_line l a
+
+-- ---- when 12 is due
+
+-- checks 1 to 6 let the line through, its first token may begin an anchor, and no numbers are those of an anchor of this line: "any other line that runs out,
+-- does not close as said, or has an id of no bytes"
+pub record Malformed (is_entire_line : Bool) (l : Line) : Type 0 where
+  pub checked : refusal most_tokens l ≡ 0
+  pub begins : begins_none (kind_at l.kinds 0) ≡ false
+  pub none : (a : Numbers) → Anchored is_entire_line l a → ⊥
+
+-- ---- what a caller that follows the runs asks: they stand in the line, which has n tokens
+
+-- the id has a token and begins the line, the text stands behind it, both are consumed, and no more is consumed than there is
+pub record Fits (n : ℕ) (a : Numbers) : Type 0 where
+  pub id_first : a.id_place ≡ 0
+  pub id_some : 0 < a.id_count
+  pub id_within : a.id_count < a.consumed
+  pub text_after : 0 < a.text_count → a.id_count < a.text_place
+  pub text_within : a.text_place + a.text_count ≤ a.consumed
+  pub consumed : a.consumed ≤ n

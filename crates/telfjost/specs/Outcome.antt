@@ -1,5 +1,5 @@
 -- What each function that C and Rust link answers and leaves, in its own result's numbers.
-use Rattle.std.specs.Prelude.{ℕ, ◌≡◌, Bool, List, length, Result}
+use Rattle.std.specs.Prelude.{ℕ, ◌≡◌, Bool, List, length, Option, Result}
 use Rattle.refusals.specs.declared.Refusal.{Refusal}
 use Rattle.token.specs.Line.{Line, most_tokens}
 use Rattle.attr_list.specs.Answer.{Answer}
@@ -10,6 +10,10 @@ use Rattle.attr_list.specs.Block as block
 use Rattle.attr_list.specs.Told.{told, told_line}
 use Rattle.attr_list.specs.declared.Read as code
 use Rattle.viewer.specs.Limit.{viewer_tokens}
+use Rattle.anchor.specs.declared.Anchor.{Anchor}
+use Rattle.anchor.specs.Anchor.{anchor}
+use Rattle.anchor.specs.Numbers.{Numbers, numbers_of}
+use Rattle.telfjost.specs.declared.anchors.TelfjostAnchor.{TelfjostAnchor}
 use Rattle.telfjost.specs.declared.TelfjostBool.{TelfjostBool}
 use Rattle.telfjost.specs.declared.TelfjostList.{TelfjostList}
 
@@ -47,3 +51,27 @@ ListOutcome = OutcomeWithin most_tokens
 
 abbrev pub ViewerOutcome : Entry → Line → (given : List ℕ) → TelfjostList → (left : List ℕ) → Type 0
 ViewerOutcome = OutcomeWithin viewer_tokens
+
+-- ---- anchors
+
+-- the eight numbers of an answer
+abbrev pub anchor_numbers : TelfjostAnchor → Numbers
+anchor_numbers r =
+    record {
+      refusal = r.refusal;
+      anchor = r.anchor;
+      id_place = r.id_place;
+      id_count = r.id_count;
+      text_place = r.text_place;
+      text_count = r.text_count;
+      consumed = r.consumed;
+      discard = r.discard;
+    }
+
+-- the numbers of what `parse_anchor` gives
+abbrev pub AnchorNumbers : Result (Option Anchor) Refusal → TelfjostAnchor → Type 0
+AnchorNumbers a r = anchor_numbers r ≡ numbers_of a
+
+-- the functions' answer, all eight numbers: of a whole line, or within a line
+abbrev pub AnchorOutcome : (is_entire_line : Bool) → Line → TelfjostAnchor → Type 0
+AnchorOutcome is_entire_line l r = anchor_numbers r ≡ anchor is_entire_line l

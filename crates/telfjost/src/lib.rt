@@ -1,6 +1,7 @@
 // What C and Rust link. Each function restates, in its own numbers, the contract of what it calls.
 #![tactic(auto)]
 
+mod anchors;
 mod lists;
 mod sets;
 mod subs;

@@ -1,7 +1,7 @@
 # Asciidoctor's side of differences.txt: reads the record and prints it with that side made anew.
-# The script `differences` calls it. A line is written without its opening bracket, as the reader is
-# lent it; of ⟨Kind text⟩, a token that the harness's plain lexer does not make by itself,
-# Asciidoctor is given the text.
+# The script `differences` calls it. A line is written without its opening bracket, the line of an
+# anchor without its two, as the reader is lent it; of ⟨Kind text⟩, a token that the harness's plain
+# lexer does not make by itself, Asciidoctor is given the text.
 require 'asciidoctor'
 require 'open3'
 
@@ -30,7 +30,7 @@ BLOCKS = {
   'table' => ['|===', '|text', '|===']
 }.freeze
 
-# Keeps what each link and inline image was made of.
+# Keeps what each link, inline image and inline anchor was made of; of an anchor its id too.
 class Seen < (Asciidoctor::Converter.for 'html5')
   register_for 'seen'
   class << self
@@ -38,7 +38,7 @@ class Seen < (Asciidoctor::Converter.for 'html5')
   end
 
   def convert_inline_anchor node
-    Seen.nodes << [node.text, node.attributes]
+    Seen.nodes << [node.text, node.attributes, node.type == :ref ? node.id : nil]
     super
   end
 
@@ -104,6 +104,67 @@ def link line
   text, attrs = Seen.nodes[0]
   rest = html.sub(/.*<\/a>/m, '')
   "text #{quoted text}; #{attributes_in_words attrs}#{rest.empty? ? '' : "; then #{quoted rest}"}"
+end
+
+# What a line after `[[` is made of: the id, the reference text, what follows. The text is the one that
+# a link to the anchor is given, before that text's own substitutions.
+#
+# As a whole line above a paragraph; nil if it is no anchor line. [nil, nil, ''] is one without an id.
+def anchor_line line
+  block = Asciidoctor.load("[[#{line}\ntext", safe: :safe).blocks[0]
+  [block.id, block.attributes['reftext'], ''] if block.context == :paragraph && block.source == 'text'
+end
+
+# In a paragraph that begins with `before`, after which the two brackets stand: what is between that and
+# the first anchor, then the anchor; nil if there is none.
+def first_anchor line, before
+  Seen.nodes = []
+  document = Asciidoctor.load("#{before}[[#{line}", safe: :safe, backend: 'seen', doctype: :inline)
+  html = document.convert
+  text, _, id = Seen.nodes.find {|_, _, id| id }
+  return nil unless id
+  known = document.catalog[:refs][id]
+  between, _, rest = html.partition %(<a id="#{id}"></a>)
+  [(between.delete_prefix before), id, known ? known.text : text, rest]
+end
+
+def anchor_in_text line, before = 'x '
+  between, *anchor = first_anchor line, before
+  anchor if between == ''
+end
+
+# At the end of a heading, which Asciidoctor reads by a rule of its own; nil if it is no such anchor.
+def anchor_of_heading line
+  section = Asciidoctor.load("== x [[#{line}", safe: :safe).blocks[0]
+  [section.id, section.attributes['reftext'], ''] if section.context == :section && section.title == 'x'
+end
+
+def anchor_in_words id, text, rest
+  words = [id ? "id #{quoted id}" : 'an anchor line without an id']
+  words << "text #{quoted text}" if text
+  words << "then #{quoted rest}" unless rest.empty?
+  words.join '; '
+end
+
+def block_anchor line
+  anchor = anchor_line line
+  return anchor_in_words(*anchor) if anchor
+  words = 'no anchor line but text'
+  words += ', and so is a heading below it' unless Asciidoctor.load("[[#{line}\n== text", safe: :safe).blocks[0].context == :section
+  inside = anchor_in_text line, ''
+  inside ? "#{words}; in the text an anchor: #{anchor_in_words(*inside)}" : words
+end
+
+def inline_anchor line
+  between, *anchor = first_anchor line, 'x '
+  words =
+    case between
+    when nil then 'no anchor'
+    when '' then anchor_in_words(*anchor)
+    else "no anchor but #{quoted between}, and behind it an anchor: #{anchor_in_words(*anchor)}"
+    end
+  heading = anchor_of_heading line
+  heading && heading != anchor ? "#{words} (at the end of a heading: #{anchor_in_words(*heading)})" : words
 end
 
 # The subs of a block, and of what stands in it.
@@ -256,15 +317,55 @@ def block_classes line
   classes
 end
 
+# The Rust's words for an anchor taken apart: the id, the reference text less a first token that counts
+# as Discard, what follows.
+def rust_anchor words
+  return nil if words == 'no anchor' || words.start_with?('refused')
+  id, text, discard, rest = words.match(/\Aid `(.*?)`(?:, text `(.*?)`)?( \(its first .*?\))?(?:; then `(.*)`)?\z/).captures
+  [id, discard ? (text.sub(/\A[ \t]+/, '')) : text, rest || '']
+end
+
+ANCHOR_ID = /\A[\p{Alpha}_:][\p{Word}\-:.]*\z/.freeze
+
+# The classes of an anchor's line, which stands after `[[`, by its text alone.
+def anchor_classes entry, line
+  whole = entry == 'block-anchor'
+  return whole && line == ']]' ? ['T9'] : [] if line.start_with?(/[\s'"0-9,\]]/)
+  id, closes, text = line.match(/\A((?:\{\w+\}|[^,\]])*)(.?)(.*)\z/).captures
+  bracket, brackets = whole ? [/\]\z/, /\]\]\z/] : [/\]/, /\]\]/]
+  classes = []
+  classes << 'T1' if id !~ ANCHOR_ID
+  classes << 'T2' if closes == ']' && text !~ /\A#{bracket}/
+  classes << 'T3' if closes == ',' && text =~ /\A#{brackets}/
+  classes << 'T4' if closes == ',' && text =~ /\A +#{brackets}/
+  classes << 'T5' if closes == ',' && text =~ /\A *\t/
+  classes << 'T6' if closes == ',' && text =~ /\A[^\]]*\][^\]]/ && !whole
+  classes << 'T7' if line =~ /--|\.\.\.|_.*_/ && !whole
+  classes << 'T8' if line.include? '{'
+  classes << 'T11' if closes == ',' && text =~ /\].*\]\]/ && !whole
+  classes
+end
+
+def classes_of entry, line
+  entry.end_with?('anchor') ? (anchor_classes entry, line) : (send "#{entry}_classes", line)
+end
+
+# Does Asciidoctor read the line otherwise than the Rust's words say? A line inside a text is put in a
+# paragraph and at the end of a heading; an apostrophe that is set as one counts as no difference.
+def differs entry, line, words
+  return (rust_answer entry, line, words) != (asciidoctor_answer entry, line) unless entry.end_with? 'anchor'
+  found = entry == 'block-anchor' ? [anchor_line(line)] : [anchor_in_text(line), *[anchor_of_heading(line)].compact]
+  found.any? {|anchor| anchor&.map {|part| part&.gsub '&#8217;', "'" } != (rust_anchor words) }
+end
+
 # Of every such line: how many differ, whether each of these is of a class, and how many are of none.
 def searched text
   entry, longest, *pieces = text.split(/ /)
-  pieces = pieces.map {|piece| piece.tr '␣', ' ' }
+  pieces = pieces.map {|piece| piece.tr('␣', ' ').gsub '<TAB>', "\t" }
   lines = (0..longest.to_i).flat_map {|size| size == 0 ? [''] : pieces.product(*[pieces] * (size - 1)).map(&:join) }.map {|line| "#{line}]" }
   rust, = Open3.capture2 HARNESS, '--lines', entry, stdin_data: lines.join("\n")
-  differ = lines.zip(rust.lines chomp: true).reject {|line, words| (rust_answer entry, line, words) == (asciidoctor_answer entry, line) }
-  classes = method "#{entry}_classes"
-  plain = lines.select {|line| classes.(line).empty? }
+  differ = lines.zip(rust.lines chomp: true).select {|line, words| differs entry, line, words }
+  plain = lines.select {|line| (classes_of entry, line).empty? }
   none = differ.map(&:first) & plain
   Asciidoctor::LoggerManager.logger.clear
   return "of no class and different: #{none.size}, #{none.first(12).join '  '}" unless none.empty?
@@ -284,6 +385,8 @@ def asciidoctor entry, text
       Asciidoctor.convert("x image:t[#{line} y", safe: :safe, backend: 'seen')
       Seen.nodes.empty? ? 'no macro' : (attributes_in_words Seen.nodes[0][1])
     when 'link' then link line
+    when 'block-anchor' then block_anchor line
+    when 'inline-anchor' then inline_anchor line
     when 'subs' then subs line
     when 'on' then block_subs(*line.split(/ /, 2))
     when 'texts' then digest

@@ -3,11 +3,13 @@
 use std::collections::BTreeMap;
 use std::fmt::Write as _;
 
-use crate::library::{Bool, Library, List, Reader, SetAnswer};
+use crate::anchor;
+use crate::library::{Anchor, Bool, Library, List, Reader, SetAnswer};
+use crate::lines::LineBuf;
 use crate::model::{self, MOST_TOKENS, VIEWER_TOKENS};
 use crate::numbers::{MARKED, Row, Unmarked};
 use crate::reading::{Reading, commas_inside};
-use crate::rust_side::{self, Entry, KINDS, Lent, Mode, Move, Outcome, ROW, STARTS, Set};
+use crate::rust_side::{self, AnchorEntry, Entry, KINDS, Lent, Mode, Move, Outcome, ROW, STARTS, Set};
 
 /// Numbers before and behind the row buffer that no call may touch.
 const GUARD: usize = 8;
@@ -16,7 +18,7 @@ const GUARD: usize = 8;
 #[derive(Default, Clone)]
 pub struct Tally {
     pub cases: BTreeMap<&'static str, u64>,
-    pub refusals: [u64; 12],
+    pub refusals: [u64; 13],
     pub tags: [u64; 9],
     /// Rows of the tags of `MARKED`, by their marks.
     pub marks: [[u64; 3]; MARKED.len()],
@@ -142,6 +144,7 @@ pub struct Worker<'l> {
     pub class: &'static str,
     due: Due,
     buffer: Vec<u32>,
+    lent: LineBuf,
 }
 
 fn refused(refusal: usize) -> List {
@@ -155,7 +158,14 @@ fn canary(salt: u32, at: usize) -> u32 {
 
 impl<'l> Worker<'l> {
     pub fn new(library: &'l Library) -> Self {
-        Worker { library, tally: Tally::default(), class: "", due: Due::default(), buffer: Vec::new() }
+        Worker {
+            library,
+            tally: Tally::default(),
+            class: "",
+            due: Due::default(),
+            buffer: Vec::new(),
+            lent: LineBuf::default(),
+        }
     }
 
     fn count(&mut self, refusal: usize) {
@@ -329,6 +339,33 @@ impl<'l> Worker<'l> {
         Err(Box::new(words))
     }
 
+    /// An entry of anchors.
+    pub fn anchor(&mut self, entry: AnchorEntry, line: Lent<'_>) -> Checked {
+        self.anchor_for(entry, line, line.text)
+    }
+
+    /// The same, where the Rust is given another text of the same lengths.
+    pub fn anchor_for(&mut self, entry: AnchorEntry, line: Lent<'_>, rust_text: &[u8]) -> Checked {
+        if !self.library.has_anchor(entry) {
+            return Ok(());
+        }
+        let expected = expected_anchor(entry, line, rust_text)?;
+        self.count(expected.refusal);
+        self.lent.set(line);
+        let null = line.kinds.len() % 2 == 0;
+        let given = self.library.anchor(entry, &mut self.lent, null);
+        let altered = self.lent.lent() != line;
+        if given == Some(expected) && !altered {
+            return Ok(());
+        }
+        let mut words = describe_line(&format!("anchor, {entry:?}"), line);
+        let _ = writeln!(words, "due:   {expected:?}\ngiven: {given:?}");
+        if altered {
+            words.push_str("what was lent is altered\n");
+        }
+        Err(Box::new(words))
+    }
+
     /// `from_meta`; None is no subs attribute. `lent` is the text that such a call passes
     /// along, which nothing may look at.
     pub fn subs(&mut self, mode: Mode, set: Set, text: Option<&[u8]>, lent: &[u8]) -> Checked {
@@ -423,6 +460,23 @@ impl<'l> Worker<'l> {
         }
         Err(Box::new(format!("{set:?} contains kind {kind}\ndue:   {expected}\ngiven: {given}\n")))
     }
+}
+
+/// What is due of a line of an anchor: the Rust's answer, which the harness's own reading must have
+/// too. The Rust may be given another text of the same lengths.
+pub fn expected_anchor(entry: AnchorEntry, line: Lent<'_>, rust_text: &[u8]) -> Result<Anchor, Box<String>> {
+    let refusal = model::line_refusal(line.kinds, line.text, line.pairs, MOST_TOKENS);
+    if refusal != 0 {
+        return Ok(Anchor::refused(refusal));
+    }
+    let own = anchor::read(entry, line);
+    let of_rust = rust_side::anchor(entry, Lent { text: rust_text, ..line });
+    if of_rust == Ok(own) {
+        return Ok(own);
+    }
+    let mut words = describe_line(&format!("anchor, {entry:?}"), line);
+    let _ = writeln!(words, "the Rust: {of_rust:?}\nthe harness's own reading: {own:?}");
+    Err(Box::new(words))
 }
 
 /// What a move must answer: the Rust's move in port mode, the model's in sheet mode. A number

@@ -6,6 +6,7 @@
 //! name of who gives it. ENTRY is one of
 //!
 //!   block, macro, inline, link   an attribute line, without its opening bracket
+//!   block-anchor, inline-anchor  a line with an anchor, behind its two brackets
 //!   is                           a line with its opening bracket: is it an attribute line?
 //!   subs                         `N` or `V` and a text in backticks: the set that it makes
 //!   on                           a block's name and a block attribute line above it
@@ -19,7 +20,7 @@ use crate::library::Library;
 use crate::lines::LineBuf;
 use crate::rust_side::{self, Entry, Mode, ROW};
 use crate::tables;
-use crate::words;
+use crate::words::{self, Asked};
 
 pub const RECORD: &str = "differences.txt";
 pub const PAGE: &str = "../docs/DIFFERENCES.md";
@@ -94,14 +95,21 @@ fn our_sides(claim: &Claim<'_>, worker: &mut Worker<'_>) -> Result<Vec<(&'static
         }
         entry => {
             let (entry, text) = match entry {
-                "on" => (Entry::Block, text.split_once(' ').ok_or_else(unknown)?.1),
+                "on" => (Asked::List(Entry::Block), text.split_once(' ').ok_or_else(unknown)?.1),
                 _ => (words::entry_of(entry).ok_or_else(unknown)?, text.as_str()),
             };
-            let line = LineBuf::lex(text);
-            worker.list(entry, line.lent(), ROW * line.kinds.len(), 1)?;
-            Ok(vec![("Rust", words::answer(entry, &line))])
+            Ok(vec![("Rust", read(entry, &LineBuf::lex(text), worker)?)])
         }
     }
+}
+
+/// The Rust's answer in words; the library's is held to it.
+fn read(asked: Asked, line: &LineBuf, worker: &mut Worker<'_>) -> Result<String, Box<String>> {
+    match asked {
+        Asked::List(entry) => worker.list(entry, line.lent(), ROW * line.kinds.len(), 1)?,
+        Asked::Anchor(entry) => worker.anchor(entry, line.lent())?,
+    }
+    Ok(words::answer(asked, line))
 }
 
 /// Every line of up to so many pieces and a closing bracket, the shorter ones first.
@@ -132,11 +140,10 @@ fn every_line(
     let lines = lines_of(longest, &pieces);
     let mut digest = Digest::new();
     for text in &lines {
-        let line = LineBuf::lex(text);
-        if let Err(words) = worker.list(entry, line.lent(), ROW * line.kinds.len(), 1) {
-            return Some(Err(words));
+        match read(entry, &LineBuf::lex(text), worker) {
+            Ok(words) => digest.add(&words),
+            Err(words) => return Some(Err(words)),
         }
-        digest.add(&words::answer(entry, &line));
     }
     Some(Ok(vec![("lines", lines.len().to_string()), ("Rust", digest.written())]))
 }

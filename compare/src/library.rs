@@ -1,7 +1,8 @@
 //! The functions of the static library, as `include/telfjost.h` declares them. Which of them
 //! exist is said by `exports.txt`, which the build turns into `--cfg export="NAME"`.
 
-use crate::numbers::{Entry, Lent, Mode, Move, Set};
+use crate::lines::LineBuf;
+use crate::numbers::{AnchorEntry, Entry, Lent, Mode, Move, Set};
 
 #[derive(Debug, Clone, Copy, PartialEq, Eq)]
 #[repr(C)]
@@ -19,6 +20,25 @@ pub struct Bool {
     pub yes: usize,
 }
 
+#[derive(Debug, Clone, Copy, PartialEq, Eq, Default)]
+#[repr(C)]
+pub struct Anchor {
+    pub refusal: usize,
+    pub anchor: usize,
+    pub id_place: usize,
+    pub id_count: usize,
+    pub text_place: usize,
+    pub text_count: usize,
+    pub consumed: usize,
+    pub discard: usize,
+}
+
+impl Anchor {
+    pub fn refused(refusal: usize) -> Self {
+        Anchor { refusal, ..Anchor::default() }
+    }
+}
+
 #[derive(Debug, Clone, Copy, PartialEq, Eq)]
 #[repr(C)]
 pub struct SetAnswer {
@@ -29,6 +49,7 @@ pub struct SetAnswer {
 type ListFn =
     unsafe extern "C" fn(*const u8, usize, *const u8, usize, *const u32, usize, *mut u32, usize) -> List;
 type BoolFn = unsafe extern "C" fn(*const u8, usize, *const u8, usize, *const u32, usize) -> Bool;
+type AnchorFn = unsafe extern "C" fn(*const u8, usize, *const u8, usize, *const u32, usize) -> Anchor;
 type SubsFn = unsafe extern "C" fn(Set, bool, *const u8, usize) -> SetAnswer;
 type MoveFn = unsafe extern "C" fn(Set, u8) -> SetAnswer;
 type RefusalFn = unsafe extern "C" fn(Set) -> usize;
@@ -68,6 +89,7 @@ pub struct Library {
     /// The main reader's, then the viewer's.
     lists: [[Option<ListFn>; 4]; 2],
     is_block_attr_list: Option<BoolFn>,
+    anchors: [Option<AnchorFn>; 2],
     from_meta: [Option<SubsFn>; 2],
     moves: [[Option<MoveFn>; 3]; 2],
     set_refusal: [Option<RefusalFn>; 2],
@@ -93,6 +115,10 @@ impl Library {
                 ],
             ],
             is_block_attr_list: export!("telfjost_is_block_attr_list", f: BoolFn),
+            anchors: [
+                export!("telfjost_block_anchor", f: AnchorFn),
+                export!("telfjost_inline_anchor", f: AnchorFn),
+            ],
             from_meta: [
                 export!("telfjost_from_meta", f: SubsFn),
                 export!("telfjost_from_meta_sheet", f: SubsFn),
@@ -134,9 +160,9 @@ impl Library {
             .collect()
     }
 
-    /// The names that the harness knows how to compare. The number of each of the first seven
+    /// The names that the harness knows how to compare. The number of each of the first nine
     /// in a recorded call is its place here, counted from 1; the others are not recorded.
-    pub const KNOWN: [&'static str; 26] = [
+    pub const KNOWN: [&'static str; 28] = [
         "telfjost_block_attr_list",
         "telfjost_block_macro_attr_list",
         "telfjost_inline_macro_attr_list",
@@ -144,6 +170,8 @@ impl Library {
         "telfjost_is_block_attr_list",
         "telfjost_from_meta",
         "telfjost_from_meta_sheet",
+        "telfjost_block_anchor",
+        "telfjost_inline_anchor",
         "telfjost_insert",
         "telfjost_remove",
         "telfjost_prepend",
@@ -171,6 +199,7 @@ impl Library {
         }
         there(self.lists.as_flattened())
             + there(&[self.is_block_attr_list])
+            + there(&self.anchors)
             + there(&self.from_meta)
             + there(self.moves.as_flattened())
             + there(&self.set_refusal)
@@ -184,6 +213,10 @@ impl Library {
 
     pub fn has_is_block_attr_list(&self) -> bool {
         self.is_block_attr_list.is_some()
+    }
+
+    pub fn has_anchor(&self, entry: AnchorEntry) -> bool {
+        self.anchors[entry as usize].is_some()
     }
 
     pub fn has_from_meta(&self, mode: Mode) -> bool {
@@ -230,6 +263,23 @@ impl Library {
         })
     }
 
+    /// The line is lent so that a call which alters it is seen.
+    pub fn anchor(&self, entry: AnchorEntry, line: &mut LineBuf, null: bool) -> Option<Anchor> {
+        let f = self.anchors[entry as usize]?;
+        let LineBuf { kinds, text, pairs } = line;
+        // SAFETY: as above.
+        Some(unsafe {
+            f(
+                at_mut(kinds, null),
+                kinds.len(),
+                at_mut(text, null),
+                text.len(),
+                at_mut(pairs, null),
+                pairs.len(),
+            )
+        })
+    }
+
     pub fn from_meta(&self, mode: Mode, set: Set, present: bool, text: &[u8]) -> Option<SetAnswer> {
         let f = self.from_meta[mode as usize]?;
         // SAFETY: as above.
@@ -258,4 +308,8 @@ impl Library {
 
 fn at<T>(slice: &[T], null: bool) -> *const T {
     if null && slice.is_empty() { std::ptr::null() } else { slice.as_ptr() }
+}
+
+fn at_mut<T>(slice: &mut [T], null: bool) -> *const T {
+    if null && slice.is_empty() { std::ptr::null() } else { slice.as_mut_ptr() }
 }

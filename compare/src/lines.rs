@@ -35,6 +35,14 @@ impl LineBuf {
         }
     }
 
+    /// Makes it a copy of another.
+    pub fn set(&mut self, line: Lent<'_>) {
+        self.clear();
+        self.kinds.extend_from_slice(line.kinds);
+        self.text.extend_from_slice(line.text);
+        self.pairs.extend_from_slice(line.pairs);
+    }
+
     pub fn of(tokens: &[Tok]) -> Self {
         let mut line = LineBuf::default();
         line.push_all(tokens);

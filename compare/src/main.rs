@@ -5,6 +5,7 @@
 
 extern crate self as ast;
 
+mod anchor;
 mod cases;
 mod check;
 mod differences;
@@ -40,7 +41,8 @@ use std::time::{Duration, Instant, SystemTime};
 use cases::Piece;
 use check::{Due, MOVED, Tally, VIEWED, Worker};
 use library::{Library, Reader};
-use numbers::{MARKED, MODES, Mode};
+use numbers::{AnchorEntry, MARKED, MODES, Mode};
+use words::Asked;
 
 const SEED: u64 = 0x7e1f_1057;
 const THREADS: usize = 2;
@@ -146,7 +148,7 @@ fn report(tally: &Tally, seconds: f64) {
         }
     }
     for (at, count) in &tally.panics {
-        println!("panics of the Rust at {at}, where 8 is due: {}", grouped(*count));
+        println!("panics of the Rust at {at}: {}", grouped(*count));
     }
 }
 
@@ -207,8 +209,9 @@ fn usage() -> ExitCode {
        compare --record                   makes the recorded answers anew
        compare --minutes N [--seed S]     the comparison, longer, then fresh random cases until N minutes are over
        compare --line ENTRY TEXT          what the Rust gives for a line, how many commas it takes back, and the quote
-                                          marks (block, macro, inline, link; is: whether the line, opening bracket and
-                                          all, is a block attribute list)
+                                          marks (block, macro, inline, link; block-anchor, inline-anchor: behind its two
+                                          brackets; is: whether the line, opening bracket and all, is a block attribute
+                                          list)
        compare --lines ENTRY              what the Rust gives for each line of the standard input, in words, without
                                           the quote marks
        compare --our-side                 differences.txt with the sides of the Rust and of this reader made anew
@@ -324,7 +327,11 @@ fn show_line(entry: &str, text: &str) -> ExitCode {
         println!("{}", if rust_side::is_block_attr_list(line.lent()) { "yes" } else { "no" });
         return ExitCode::SUCCESS;
     }
-    let Some(entry) = words::entry_of(entry) else { return usage() };
+    let entry = match words::entry_of(entry) {
+        Some(Asked::List(entry)) => entry,
+        Some(Asked::Anchor(entry)) => return show_anchor(entry, &line),
+        None => return usage(),
+    };
     let mut due = Due::default();
     let outcome = match due.read(entry, line.lent(), &line.text) {
         Ok(outcome) => outcome,
@@ -342,6 +349,20 @@ fn show_line(entry: &str, text: &str) -> ExitCode {
         println!("  {row:?}  {}", words::row(&line, row));
     }
     ExitCode::SUCCESS
+}
+
+/// What the Rust gives for the line of an anchor, in numbers and in words.
+fn show_anchor(entry: AnchorEntry, line: &lines::LineBuf) -> ExitCode {
+    match check::expected_anchor(entry, line.lent(), &line.text) {
+        Ok(anchor) => {
+            println!("{anchor:?}\n  {}", words::anchor(line, anchor));
+            ExitCode::SUCCESS
+        }
+        Err(words) => {
+            println!("DIFFERENT: {words}");
+            ExitCode::FAILURE
+        }
+    }
 }
 
 /// The Rust's answers in words to the lines of the standard input, each on a line of its own.

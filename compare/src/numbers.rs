@@ -83,8 +83,15 @@ pub enum Entry {
 
 pub const ENTRIES: [Entry; 4] = [Entry::Block, Entry::BlockMacro, Entry::Inline, Entry::Link];
 
+/// The entries of anchors: of a whole line, and inline.
+#[derive(Debug, Clone, Copy, PartialEq, Eq)]
+pub enum AnchorEntry {
+    Block,
+    Inline,
+}
+
 /// A line whose texts the Rust can hold: every lexeme is UTF-8.
-#[derive(Clone, Copy)]
+#[derive(Clone, Copy, PartialEq, Eq)]
 pub struct Lent<'t> {
     pub kinds: &'t [u8],
     pub text: &'t [u8],

@@ -23,10 +23,10 @@ impl SourceLocation {
         SourceLocation { start, end, include_depth }
     }
 
-    /// Where token number `place` stands: token i at start i + 1, end i + 2; the opening bracket
-    /// at 0.
+    /// Where token number `place` stands: token i at start i + 2, end i + 3; the opening bracket of
+    /// a list at 1, the two of an anchor at 0 and 1.
     pub fn of_token(place: usize) -> Self {
-        Self::new(place as u32 + 1, place as u32 + 2, 0)
+        Self::new(place as u32 + 2, place as u32 + 3, 0)
     }
 
     pub fn spanning(first: Self, last: Self) -> Self {

@@ -37,3 +37,12 @@ pub mod variants {
         pub use crate::token::TokenKind::*;
     }
 }
+
+/// The inline entry of anchors, which the Rust shows to the module above it alone.
+#[allow(dead_code)]
+pub fn parse_inline_anchor<'b>(
+    parser: &mut crate::parser::Parser<'b>,
+    line: &mut line::Line<'b>,
+) -> crate::parser::Result<Option<parse_attr_list::AnchorSrc<'b>>> {
+    parser.parse_inline_anchor(line)
+}

@@ -10,11 +10,9 @@ use std::ops::{Deref, DerefMut};
 
 use crate::deq::Deq;
 use crate::numbers::Unmarked;
-use crate::parser::{
-    ContiguousLines, Inline, InlineCtx, MultiSourceLocation, Parser, Result, SourceLocation,
-};
+use crate::parser::{ContiguousLines, Inline, MultiSourceLocation, Parser, Result, SourceLocation};
 use crate::substitutions::Substitutions;
-use crate::token::Token;
+use crate::token::{Token, TokenKind};
 use crate::unreached::missing;
 
 // ---- the arena, with the one event log
@@ -205,12 +203,12 @@ impl fmt::Display for BumpString<'_> {
 impl SourceLocation {
     /// The run that it spans.
     fn run(&self) -> Run {
-        Run { place: self.start - 1, count: self.end - self.start }
+        Run { place: self.start - 2, count: self.end - self.start }
     }
 
     /// The token place at which it starts; the list's own location counts as 0.
     fn place(&self) -> u32 {
-        self.start.saturating_sub(1)
+        self.start.saturating_sub(2)
     }
 }
 
@@ -248,16 +246,17 @@ impl<'b> SourceString<'b> {
     }
 
     /// First token to last; made of no token, it is the empty run.
-    fn run(&self) -> Run {
+    pub fn run(&self) -> Run {
         if self.src.pieces == 0 { Run::default() } else { self.loc.run() }
     }
 }
 
-/// Nodes that were not made: the run of tokens they would be made of, and the substitutions
-/// in force.
+/// Nodes that were not made: the run of tokens they would be made of, the kind that the first of
+/// these had by then, and the substitutions in force.
 #[derive(Debug, Clone, PartialEq, Eq)]
 pub struct InlineNodes<'b> {
-    run: Run,
+    pub run: Run,
+    pub first: Option<TokenKind>,
     subs: Substitutions,
     arena: PhantomData<&'b Bump>,
 }
@@ -377,22 +376,25 @@ impl<'b> Parser<'b> {
     }
 
     pub fn parse_attr_nodes(&mut self, tokens: Deq<'b, Token<'b>>) -> Result<Option<InlineNodes<'b>>> {
-        Ok(Some(self.nodes(run_of(&tokens))))
+        Ok(Some(self.nodes(run_of(&tokens), tokens.first())))
     }
 
+    /// A link's text, or the reference text of an anchor, in which `Line::push` may have made one
+    /// token of several: what it spans counts, and not how many tokens it has.
     pub fn parse_inlines(&mut self, lines: &mut ContiguousLines<'b>) -> Result<InlineNodes<'b>> {
         let Some(line) = lines.lines.pop_front() else { missing("parse_inlines of no line") };
-        if self.ctx.inline_ctx != InlineCtx::LinkMacroAttrs || !lines.lines.is_empty() {
-            missing("parse_inlines of anything but a link's text");
+        if !lines.lines.is_empty() {
+            missing("parse_inlines of more than one line");
         }
         let run = match line.loc() {
             Some(loc) => loc.run(),
             None => Run::default(),
         };
-        Ok(self.nodes(run))
+        Ok(self.nodes(run, line.current_token()))
     }
 
-    fn nodes(&self, run: Run) -> InlineNodes<'b> {
-        InlineNodes { run, subs: self.ctx.subs, arena: PhantomData }
+    fn nodes(&self, run: Run, first: Option<&Token<'b>>) -> InlineNodes<'b> {
+        let first = first.map(|token| token.kind);
+        InlineNodes { run, first, subs: self.ctx.subs, arena: PhantomData }
     }
 }

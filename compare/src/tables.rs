@@ -97,8 +97,10 @@ fn check_lines(row: &Row<'_>, lines: &str, claims: &ByText<'_>) -> Result<(), St
     for span in spans(lines) {
         let written = plain(span);
         let bare = written.strip_prefix('[').unwrap_or(&written);
+        let of_anchor = written.strip_prefix("[[").unwrap_or(bare);
         let before = found.len();
-        found.extend([written.as_str(), bare].iter().filter_map(|text| claims.get(*text)).flatten());
+        let texts = [written.as_str(), bare, of_anchor];
+        found.extend(texts.iter().filter_map(|text| claims.get(*text)).flatten());
         if found.len() == before {
             return Err(row.missing(span));
         }

@@ -13,9 +13,9 @@
  *
  * A line of tokens is lent as three arrays:
  *   kinds  one number for each token, 0 to 50, in the order of the Rust's TokenKind
- *          (AttrRef 3, Backslash 5, CloseBracket 10, Comma 13, DoubleQuote 19, Dots 20,
- *          EqualSigns 23, Hash 27, OpenBracket 34, Percent 36, SingleQuote 43,
- *          Whitespace 49, Word 50);
+ *          (AttrRef 3, Backslash 5, CloseBracket 10, Comma 13, Digits 16, Discard 18,
+ *          DoubleQuote 19, Dots 20, EqualSigns 23, Hash 27, OpenBracket 34, Percent 36,
+ *          SingleQuote 43, Whitespace 49, Word 50);
  *   text   the bytes of the line;
  *   pairs  two numbers for each token, the byte at which its text starts in `text` and its
  *          length in bytes; sorted, not overlapping, gaps allowed.
@@ -32,6 +32,8 @@
  *   9  the text of a subs attribute is over 65,535 bytes
  *   10 the set is not held
  *   11 sheet mode: the set is held but not sound
+ *   12 the line of an anchor, one that is not "no anchor", runs out, does not close as it should, or
+ *      its id has no bytes
  */
 #ifndef TELFJOST_H
 #define TELFJOST_H
@@ -74,7 +76,8 @@ typedef struct {
  *
  * A row is six numbers: a tag, then two runs, then a quote mark. A run is the place of its first
  * token and how many tokens it has, first kept token to last; AttrRef tokens inside it are skipped
- * by whoever reads it; an empty run is 0, 0. Unused numbers are 0.
+ * by whoever reads it; an empty run is 0, 0. Unused numbers are 0. (In an anchor's id and reference
+ * text AttrRef tokens are kept: see telfjost_anchor.)
  *
  * The quote mark says which quotes the reader took off the run: 0 none, 1 double, 2 single. The
  * tokens beside a run do not tell it: `""` and `k=""` have the mark 1 and the run 0, 0, and AttrRef
@@ -156,6 +159,54 @@ telfjost_list telfjost_viewer_link_macro_attr_list(const uint8_t *kinds, size_t 
                                                    const uint8_t *text, size_t text_len,
                                                    const uint32_t *pairs, size_t pairs_len,
                                                    uint32_t *rows, size_t rows_len);
+
+/* What an anchor, [[id,text]], was read as. */
+typedef struct {
+    size_t refusal;                /* 0, 1 to 6, or 12; then the others are 0 */
+    size_t anchor;                 /* 1 for an anchor; 0 for "no anchor", then all are 0 */
+    size_t id_place, id_count;     /* the id: a run, AttrRef tokens kept */
+    size_t text_place, text_count; /* the reference text: a run, AttrRef tokens kept; 0, 0: absent */
+    size_t consumed;               /* tokens consumed */
+    size_t discard;                /* 1: the reference text's first token counts as Discard; else 0 */
+} telfjost_anchor;
+
+/*
+ * The two readings of an anchor. The line begins after the two opening brackets. The checks of a
+ * line, 1 to 6, come first. Then a line whose first token is SingleQuote, DoubleQuote, Whitespace,
+ * CloseBracket, Digits or Comma is "no anchor", which is an answer and no refusal: nothing is
+ * consumed. Of any other line the id runs to the first Comma or CloseBracket.
+ *
+ * Where that is a CloseBracket there is no reference text, and up to two tokens more are consumed:
+ * the CloseBracket and the token behind it, of whatever kind, if there is one. By both functions
+ * `a]]` and `a]b` have 3 consumed, and `a]` has 2.
+ *
+ * Where it is a Comma the reference text begins behind it. The two functions differ in where it ends;
+ * both consume the two CloseBrackets that close the anchor. A reference text of no tokens is absent.
+ *
+ * Refusal 12: there is neither Comma nor CloseBracket, or behind the Comma the anchor does not close
+ * as its function says, or all tokens of the id together have no bytes.
+ *
+ * Whoever reads these two runs does not skip AttrRef tokens, as he would in a row's: the id of
+ * `a{x}]]` is `a{x}`, and the bytes of an AttrRef token count for it.
+ *
+ * `discard` is 1 where the first token of the reference text is Whitespace, or is lent as Discard. That
+ * one token is a leading blank and does not belong to what is shown, while its place still belongs to
+ * the run; `kinds` is not altered. What is shown has text_count - discard tokens, from the place
+ * text_place + discard on.
+ */
+
+/* An anchor that is the whole line. Behind the Comma the last two tokens must be CloseBrackets; the
+ * reference text is what stands before them, other CloseBrackets too. All of the line is consumed. */
+telfjost_anchor telfjost_block_anchor(const uint8_t *kinds, size_t kinds_len,
+                                      const uint8_t *text, size_t text_len,
+                                      const uint32_t *pairs, size_t pairs_len);
+
+/* An anchor in a line that may go on behind it: see `consumed`. The reference text runs to the first
+ * CloseBracket behind the Comma, which must be followed by another; a Backslash before either changes
+ * nothing. */
+telfjost_anchor telfjost_inline_anchor(const uint8_t *kinds, size_t kinds_len,
+                                       const uint8_t *text, size_t text_len,
+                                       const uint32_t *pairs, size_t pairs_len);
 
 /*
  * A substitution set: seven places, in the order in which the substitutions are applied, and a flag

@@ -30,10 +30,34 @@
 //! # Ok::<(), telfjost::Refusal>(())
 //! ```
 //!
+//! An [`Anchor`], `[[id,text]]`, is read from behind its two opening brackets:
+//!
+//! ```
+//! use telfjost::{Kind, Line};
+//!
+//! // glucose,Fasting glucose]]
+//! let line: Line = [
+//!     (Kind::Word, "glucose"),
+//!     (Kind::Comma, ","),
+//!     (Kind::Word, "Fasting"),
+//!     (Kind::Whitespace, " "),
+//!     (Kind::Word, "glucose"),
+//!     (Kind::CloseBracket, "]"),
+//!     (Kind::CloseBracket, "]"),
+//! ]
+//! .into_iter()
+//! .collect();
+//! let anchor = line.lent().block_anchor()?.expect("an anchor");
+//! assert_eq!(anchor.id(), "glucose");
+//! assert_eq!(anchor.reference_text().unwrap(), "Fasting glucose");
+//! # Ok::<(), telfjost::Refusal>(())
+//! ```
+//!
 //! Linking: `build.rs` looks for the library in the folder that `TELFJOST_LIB_DIR` names, else
 //! in `../target/staticlib`, where `tools/library` puts it.
 #![deny(unsafe_code, missing_docs)]
 
+mod anchor;
 mod kind;
 mod line;
 mod list;
@@ -42,6 +66,7 @@ mod subs;
 #[allow(missing_docs)]
 mod sys;
 
+pub use anchor::Anchor;
 pub use kind::Kind;
 pub use line::{Lent, Line, Run, Text};
 pub use list::{Diagnostic, Entry, Limit, List, Quotes, Reader, Row};

@@ -120,9 +120,15 @@ impl<'l> Lent<'l> {
         self.text.get(offset..offset.checked_add(length)?)
     }
 
-    /// What a run of tokens says. AttrRef tokens are skipped, gaps are left out.
+    /// What a run of tokens says, as a row's is read. AttrRef tokens are skipped, gaps are left out.
     pub fn text_of(&self, run: Run) -> Text<'l> {
-        Text { line: *self, run }
+        Text { line: *self, run, attr_refs: false }
+    }
+
+    /// What a run of tokens says, as an [`Anchor`](crate::Anchor)'s is read. AttrRef tokens are kept,
+    /// gaps are left out.
+    pub fn text_with_attr_refs(&self, run: Run) -> Text<'l> {
+        Text { line: *self, run, attr_refs: true }
     }
 
     /// Is the line a block attribute list? Here, and here alone, the line begins with its
@@ -166,13 +172,15 @@ impl Run {
     }
 }
 
-/// What a run says: the bytes of its tokens, one after the other, AttrRef tokens skipped.
+/// What a run says: the bytes of its tokens, one after the other. In the runs of a row AttrRef tokens
+/// are skipped, in those of an [`Anchor`](crate::Anchor) they are kept.
 ///
 /// It compares with `str` and `[u8]` without being copied together, and prints as text.
 #[derive(Clone, Copy)]
 pub struct Text<'l> {
     line: Lent<'l>,
     run: Run,
+    attr_refs: bool,
 }
 
 impl<'l> Text<'l> {
@@ -181,7 +189,7 @@ impl<'l> Text<'l> {
         self.run
     }
 
-    /// The bytes of each token of the run that is not AttrRef.
+    /// The bytes of each token of the run; in that of a row, of each that is not AttrRef.
     ///
     /// ```
     /// use telfjost::{Kind, Line, Run};
@@ -190,12 +198,13 @@ impl<'l> Text<'l> {
     /// let text = line.lent().text_of(Run { place: 0, count: 3 });
     /// assert_eq!(text.pieces().collect::<Vec<_>>(), [b"a", b"b"]);
     /// assert_eq!(text, "ab");
+    /// assert_eq!(line.lent().text_with_attr_refs(text.run()), "a{x}b");
     /// ```
     pub fn pieces(&self) -> impl Iterator<Item = &'l [u8]> + 'l {
-        let line = self.line;
-        let end = self.run.places().end.min(line.tokens());
-        (self.run.place..end)
-            .filter(move |place| line.kinds[*place] != Kind::AttrRef.number())
+        let Text { line, run, attr_refs } = *self;
+        let end = run.places().end.min(line.tokens());
+        (run.place..end)
+            .filter(move |place| attr_refs || line.kinds[*place] != Kind::AttrRef.number())
             .filter_map(move |place| line.lexeme(place))
     }
 

@@ -29,12 +29,15 @@ pub enum Refusal {
     SetNotHeld,
     /// 11: the set is held but not sound (sheet mode).
     SetNotSound,
+    /// 12: the line of an anchor, one that is not "no anchor", runs out, does not close as it should, or
+    /// its id has no bytes.
+    AnchorMalformed,
     /// A number of a later library, which this crate has no words for.
     Other(usize),
 }
 
 /// Where it is checked, and exactly when it applies: the words of docs/RULES.md.
-const WORDS: [(Refusal, &str, &str); 11] = [
+const WORDS: [(Refusal, &str, &str); 12] = [
     (Refusal::NoTokens, "line", "no tokens"),
     (Refusal::TooManyTokens, "line", "over 4,096 tokens; for the small viewer over 256"),
     (Refusal::TextTooLong, "text of a line", "over 65,535 bytes"),
@@ -46,6 +49,7 @@ const WORDS: [(Refusal, &str, &str); 11] = [
     (Refusal::SubsTextTooLong, "subs text", "over 65,535 bytes"),
     (Refusal::SetNotHeld, "set", "not held"),
     (Refusal::SetNotSound, "set, sheet mode", "held but not sound"),
+    (Refusal::AnchorMalformed, "anchor", "does not close as it should, or its id has no bytes"),
 ];
 
 impl Refusal {
@@ -69,11 +73,8 @@ impl Refusal {
     /// assert_eq!(Refusal::of_number(2), Some(Refusal::TooManyTokens));
     /// ```
     pub fn of_number(number: usize) -> Option<Refusal> {
-        match number {
-            0 => None,
-            1..=11 => Some(WORDS[number - 1].0),
-            _ => Some(Refusal::Other(number)),
-        }
+        let row = WORDS.get(number.checked_sub(1)?);
+        Some(row.map_or(Refusal::Other(number), |(refusal, ..)| *refusal))
     }
 
     /// Nothing for 0, else the refusal.

@@ -12,31 +12,52 @@ pub struct Bool {
     pub yes: usize,
 }
 
-#[link(name = "telfjost", kind = "static")]
-extern "C" {
-    fn telfjost_is_block_attr_list(
-        kinds: *const u8,
-        kinds_len: usize,
-        text: *const u8,
-        text_len: usize,
-        pairs: *const u32,
-        pairs_len: usize,
-    ) -> Bool;
+#[repr(C)]
+pub struct AnchorAnswer {
+    pub refusal: usize,
+    pub anchor: usize,
+    pub id_place: usize,
+    pub id_count: usize,
+    pub text_place: usize,
+    pub text_count: usize,
+    pub consumed: usize,
+    pub discard: usize,
 }
 
-pub fn is_block_attr_list(line: Lent<'_>) -> Bool {
-    let Lent { kinds, text, pairs } = line;
-    // SAFETY: see above.
-    unsafe {
-        telfjost_is_block_attr_list(
-            kinds.as_ptr(),
-            kinds.len(),
-            text.as_ptr(),
-            text.len(),
-            pairs.as_ptr(),
-            pairs.len(),
-        )
-    }
+macro_rules! of_a_line_alone {
+    ($($name:ident: $called:ident -> $answer:ident)*) => {
+        #[link(name = "telfjost", kind = "static")]
+        extern "C" {
+            $(fn $called(
+                kinds: *const u8,
+                kinds_len: usize,
+                text: *const u8,
+                text_len: usize,
+                pairs: *const u32,
+                pairs_len: usize,
+            ) -> $answer;)*
+        }
+        $(pub fn $name(line: Lent<'_>) -> $answer {
+            let Lent { kinds, text, pairs } = line;
+            // SAFETY: see above.
+            unsafe {
+                $called(
+                    kinds.as_ptr(),
+                    kinds.len(),
+                    text.as_ptr(),
+                    text.len(),
+                    pairs.as_ptr(),
+                    pairs.len(),
+                )
+            }
+        })*
+    };
+}
+
+of_a_line_alone! {
+    is_block_attr_list: telfjost_is_block_attr_list -> Bool
+    block_anchor: telfjost_block_anchor -> AnchorAnswer
+    inline_anchor: telfjost_inline_anchor -> AnchorAnswer
 }
 
 // ---- substitutions

@@ -55,7 +55,7 @@ fn a_line_pushed_past_the_bounds_is_refused() {
 }
 
 #[test]
-fn a_run_is_read_without_its_references() {
+fn a_run_is_read_without_its_references_and_with_them() {
     let mut built = Line::new();
     built
         .push(Kind::Word, "a")
@@ -73,6 +73,9 @@ fn a_run_is_read_without_its_references() {
     // places past the line say nothing
     assert_eq!(text(3, usize::MAX), ",");
     assert_eq!(text(9, 1), "");
+    // as an anchor's is read, with them
+    assert_eq!(lent.text_with_attr_refs(Run { place: 0, count: 3 }).to_bytes().as_ref(), b"a{x}\xff");
+    assert_eq!(lent.text_with_attr_refs(Run { place: 1, count: usize::MAX }).to_string(), "{x}\u{fffd},");
     assert_eq!((lent.kind(1), lent.kind(4), lent.lexeme(4)), (Some(Kind::AttrRef), None, None));
 }
 
@@ -90,4 +93,10 @@ fn kinds_and_refusals_by_number() {
     }
     assert_eq!(Refusal::KindTooLarge.to_string(), "refusal 5: kinds: some kind over 50");
     assert_eq!(Refusal::RowsTooShort.to_string(), "refusal 7: row buffer: under 6 × tokens");
+    assert_eq!(Refusal::of_number(12), Some(Refusal::AnchorMalformed));
+    assert_eq!(
+        Refusal::AnchorMalformed.to_string(),
+        "refusal 12: anchor: does not close as it should, or its id has no bytes"
+    );
+    assert_eq!(Refusal::of_number(13), Some(Refusal::Other(13)));
 }

@@ -1,36 +1,9 @@
 //! The four readings: lines and their rows, the bounds, and the iterators.
 
+mod common;
+
+use common::{line, run};
 use telfjost::{Diagnostic, Entry, Kind, Lent, Limit, Line, Quotes, Reader, Refusal, Row, Run};
-
-/// Each mark is one token; `...` and `==` too.
-fn line(text: &str) -> Line {
-    let mut line = Line::new();
-    let mut rest = text;
-    while let Some(first) = rest.chars().next() {
-        let (kind, len) = match first {
-            ']' => (Kind::CloseBracket, 1),
-            '[' => (Kind::OpenBracket, 1),
-            ',' => (Kind::Comma, 1),
-            '"' => (Kind::DoubleQuote, 1),
-            '\'' => (Kind::SingleQuote, 1),
-            '#' => (Kind::Hash, 1),
-            '%' => (Kind::Percent, 1),
-            '\\' => (Kind::Backslash, 1),
-            ' ' => (Kind::Whitespace, 1),
-            '.' => (Kind::Dots, rest.len() - rest.trim_start_matches('.').len()),
-            '=' => (Kind::EqualSigns, rest.len() - rest.trim_start_matches('=').len()),
-            '{' => (Kind::AttrRef, rest.find('}').unwrap() + 1),
-            _ => (Kind::Word, rest.find(|c: char| !c.is_alphanumeric()).unwrap_or(rest.len())),
-        };
-        line.push(kind, &rest[..len]);
-        rest = &rest[len..];
-    }
-    line
-}
-
-fn run(place: usize, count: usize) -> Run {
-    Run { place, count }
-}
 
 fn positional(run: Run, quotes: Quotes) -> Row {
     Row::Positional { run, quotes }

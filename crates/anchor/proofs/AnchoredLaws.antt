@@ -32,18 +32,18 @@ is-comma k e f = by (eqb k comma) refl e
 -- ---- the id
 
 module _ (l : Line) (n : ℕ) where
-  pub is-id : id_count l.kinds ≡ Some n → no_bytes l.pairs n ≡ false → IsId l n
+  pub is-id : id_count l.kinds ≡ Some n → no_bytes l n ≡ false → IsId l n
   is-id e f =
       let w = position-Some ends_id l.kinds n 0 e in
-      let b = bytes-some l.pairs n (λ z. true≢false (sym (eq-eqb (bytes_of l.pairs n) 0 z) ∙ f)) in
+      let b = bytes-some l n (λ z. true≢false (sym (eq-eqb (bytes_of l n) 0 z) ∙ f)) in
       record { among = w.0; ends = w.1; first = w.2; place = b.place; within = b.within; bytes = b.bytes }
 
   module _ (w : IsId l n) where
     pub id-counted : id_count l.kinds ≡ Some n
     id-counted = position-is ends_id l.kinds n w.among w.ends w.first
 
-    pub id-bytes : no_bytes l.pairs n ≡ false
-    id-bytes = ne_eqb (bytes_of l.pairs n) 0 (some-bytes l.pairs n w.place w.within w.bytes)
+    pub id-bytes : no_bytes l n ≡ false
+    id-bytes = ne_eqb (bytes_of l n) 0 (some-bytes l n w.place w.within w.bytes)
 
 -- ---- the two brackets that close behind a Comma at n
 
@@ -190,32 +190,39 @@ module _ (is_entire_line : Bool) (l : Line) where
   unfolding with_id
   read-either = by (id_count l.kinds) refl
     where
-      bytes : (n : ℕ) → id_count l.kinds ≡ Some n → (t : Bool) → no_bytes l.pairs n ≡ t → Either (cond t (refused anchor_malformed) (after_id is_entire_line l.kinds n))
+      bytes : (n : ℕ) → id_count l.kinds ≡ Some n → (t : Bool) → no_bytes l n ≡ t → Either (cond t (refused anchor_malformed) (after_id is_entire_line l.kinds n))
       bytes n e true f = inl refl
       bytes n e false f = id-either n (is-id l n e f)
 
       by : (o : Option ℕ) → id_count l.kinds ≡ o → Either (with_id is_entire_line l o)
       by None e = inl refl
-      by (Some n) e = bytes n e (no_bytes l.pairs n) refl
+      by (Some n) e = bytes n e (no_bytes l n) refl
 
-  -- ---- any line: the laws in words
+  -- ---- any line: what each check gives
 
-  module _ (checked : refusal most_tokens l ≡ 0) (begins : begins_none (kind_at l.kinds 0) ≡ false) where
-    is-answered : anchor is_entire_line l ≡ read
-    unfolding anchor unrefused
-    is-answered = rw (checked, begins)
+  refused-due : (n : ℕ) → refusal most_tokens l ≡ suc n → anchor is_entire_line l ≡ refused (suc n)
+  unfolding anchor
+  refused-due n e = rw e
 
-    -- an anchor in words is the one that is read
-    pub anchored-read : (a : Numbers) → Anchored is_entire_line l a → anchor is_entire_line l ≡ a
-    anchored-read a w = is-answered ∙ is-read a w
+  none-due : refusal most_tokens l ≡ 0 → begins_none (kind_at l.kinds 0) ≡ true → anchor is_entire_line l ≡ no_anchor
+  unfolding anchor unrefused
+  none-due e b = rw (e, b)
 
-    -- and where there is none, 12 is due
-    pub malformed-read : ((a : Numbers) → Anchored is_entire_line l a → ⊥) → anchor is_entire_line l ≡ refused anchor_malformed
-    malformed-read none = by read-either
-      where
-        by : Either read → anchor is_entire_line l ≡ refused anchor_malformed
-        by (inl e) = is-answered ∙ e
-        by (inr w) = absurd (none read w)
+  read-due : refusal most_tokens l ≡ 0 → begins_none (kind_at l.kinds 0) ≡ false → anchor is_entire_line l ≡ read
+  unfolding anchor unrefused
+  read-due e b = rw (e, b)
+
+  -- an anchor in words is the one that is read
+  pub anchored-read : refusal most_tokens l ≡ 0 → begins_none (kind_at l.kinds 0) ≡ false → (a : Numbers) → Anchored is_entire_line l a → anchor is_entire_line l ≡ a
+  anchored-read e b a w = read-due e b ∙ is-read a w
+
+  -- and where there is none, 12 is due
+  pub malformed-due : Malformed is_entire_line l → anchor is_entire_line l ≡ refused anchor_malformed
+  malformed-due w = by read-either
+    where
+      by : Either read → anchor is_entire_line l ≡ refused anchor_malformed
+      by (inl e) = read-due w.checked w.begins ∙ e
+      by (inr v) = absurd (w.none read v)
 
   -- what the checks of a line refuse is 1 to 6
   few : (t : Bool) (n rest : ℕ) → n ≤ 6 → rest ≤ 6 → check t n rest ≤ 6
@@ -233,44 +240,42 @@ module _ (is_entire_line : Bool) (l : Line) where
   anchored-refusal a (inr w) = ap (λ (x : Numbers). x.refusal) w.numbers
 
   -- 12 is due exactly where no numbers are those of an anchor
-  pub malformed : (anchor is_entire_line l).refusal ≡ 12 → Malformed is_entire_line l
-  unfolding anchor unrefused
-  malformed = checks (refusal most_tokens l) refl
+  pub malformed : (anchor is_entire_line l).refusal ≡ anchor_malformed → Malformed is_entire_line l
+  malformed e = checks (refusal most_tokens l) refl
     where
-      none : refusal most_tokens l ≡ 0 → begins_none (kind_at l.kinds 0) ≡ false → read.refusal ≡ 12 → (a : Numbers) → Anchored is_entire_line l a → ⊥
-      none c b e a w =
-          let f : read.refusal ≡ a.refusal = ap (λ (x : Numbers). x.refusal) (is-read a w) in
-          omega (arith, e, f, anchored-refusal a w)
+      told : (n : Numbers) → anchor is_entire_line l ≡ n → n.refusal ≡ 12
+      told n f = ap (λ (x : Numbers). x.refusal) (sym f) ∙ e
 
-      first : refusal most_tokens l ≡ 0 → (t : Bool) → begins_none (kind_at l.kinds 0) ≡ t → (cond t no_anchor read).refusal ≡ 12 → Malformed is_entire_line l
-      first c true b e = absurd (omega (arith, e))
-      first c false b e = record { checked = c; begins = b; none = none c b e }
+      none : refusal most_tokens l ≡ 0 → begins_none (kind_at l.kinds 0) ≡ false → (a : Numbers) → Anchored is_entire_line l a → ⊥
+      none c b a w = omega (arith, told a (anchored-read c b a w), anchored-refusal a w)
 
-      checks : (r : ℕ) → refusal most_tokens l ≡ r → (unless_refused r (cond (begins_none (kind_at l.kinds 0)) no_anchor read)).refusal ≡ 12 → Malformed is_entire_line l
+      first : refusal most_tokens l ≡ 0 → (t : Bool) → begins_none (kind_at l.kinds 0) ≡ t → Malformed is_entire_line l
+      first c true b = absurd (omega (arith, told no_anchor (none-due c b)))
+      first c false b = record { checked = c; begins = b; none = none c b }
+
+      checks : (r : ℕ) → refusal most_tokens l ≡ r → Malformed is_entire_line l
       checks zero c = first c (begins_none (kind_at l.kinds 0)) refl
-      checks (suc n) c = λ e. absurd (omega (arith, e, c, refusal-few))
-
-  pub malformed-due : Malformed is_entire_line l → anchor is_entire_line l ≡ refused anchor_malformed
-  malformed-due w = malformed-read w.checked w.begins w.none
+      checks (suc n) c = absurd (omega (arith, told (refused (suc n)) (refused-due n c), c, refusal-few))
 
   -- what is answered as an anchor is one in words
   pub anchored-only : (anchor is_entire_line l).anchor ≡ 1 → (refusal most_tokens l ≡ 0) × (begins_none (kind_at l.kinds 0) ≡ false) × Anchored is_entire_line l (anchor is_entire_line l)
-  unfolding anchor unrefused
-  anchored-only = checks (refusal most_tokens l) refl
+  anchored-only e = checks (refusal most_tokens l) refl
     where
-      some : Either read → read.anchor ≡ 1 → Anchored is_entire_line l read
-      some (inl e) f = (let z : read.anchor ≡ 0 = ap (λ (x : Numbers). x.anchor) e in absurd (omega (arith, z, f)))
-      some (inr w) f = w
+      told : (n : Numbers) → anchor is_entire_line l ≡ n → n.anchor ≡ 1
+      told n f = ap (λ (x : Numbers). x.anchor) (sym f) ∙ e
 
-      first : refusal most_tokens l ≡ 0 → (t : Bool) → begins_none (kind_at l.kinds 0) ≡ t → (cond t no_anchor read).anchor ≡ 1
-          → (refusal most_tokens l ≡ 0) × (begins_none (kind_at l.kinds 0) ≡ false) × Anchored is_entire_line l (cond t no_anchor read)
-      first c true b e = absurd (omega (arith, e))
-      first c false b e = (c, b, some read-either e)
+      some : anchor is_entire_line l ≡ read → Either read → Anchored is_entire_line l (anchor is_entire_line l)
+      some f (inl g) = absurd (omega (arith, told (refused anchor_malformed) (f ∙ g)))
+      some f (inr w) = subst (Anchored is_entire_line l) (sym f) w
 
-      checks : (r : ℕ) → refusal most_tokens l ≡ r → (unless_refused r (cond (begins_none (kind_at l.kinds 0)) no_anchor read)).anchor ≡ 1
-          → (refusal most_tokens l ≡ 0) × (begins_none (kind_at l.kinds 0) ≡ false) × Anchored is_entire_line l (unless_refused r (cond (begins_none (kind_at l.kinds 0)) no_anchor read))
+      first : refusal most_tokens l ≡ 0 → (t : Bool) → begins_none (kind_at l.kinds 0) ≡ t
+          → (refusal most_tokens l ≡ 0) × (begins_none (kind_at l.kinds 0) ≡ false) × Anchored is_entire_line l (anchor is_entire_line l)
+      first c true b = absurd (omega (arith, told no_anchor (none-due c b)))
+      first c false b = (c, b, some (read-due c b) read-either)
+
+      checks : (r : ℕ) → refusal most_tokens l ≡ r → (refusal most_tokens l ≡ 0) × (begins_none (kind_at l.kinds 0) ≡ false) × Anchored is_entire_line l (anchor is_entire_line l)
       checks zero c = first c (begins_none (kind_at l.kinds 0)) refl
-      checks (suc n) c = λ e. absurd (omega (arith, e))
+      checks (suc n) c = absurd (omega (arith, told (refused (suc n)) (refused-due n c)))
 
   -- ---- where the runs stand
 

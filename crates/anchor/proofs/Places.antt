@@ -6,7 +6,7 @@ use Rattle.std.proofs.Math.Decide.{dec_lt}
 use Rattle.std.proofs.lemmas.Option.{none-some}
 use Rattle.std.proofs.lemmas.List.Sums.{fails_before_first}
 use Rattle.std.proofs.lemmas.List.Quantifiers.{position-Some}
-use Rattle.token.specs.Line.{length_in}
+use Rattle.token.specs.Line.{Line, length_in}
 use Rattle.anchor.specs.Anchor.{bytes_of}
 
 module _ (p : ℕ → Bool) (xs : List ℕ) where
@@ -32,25 +32,25 @@ module _ (p : ℕ → Bool) (xs : List ℕ) where
           let w = position-Some p xs j 0 e in
           ap Some (same j w.1 w.2 (dec_lt j i) (dec_lt i j))
 
-module _ (pairs : List ℕ) where
+module _ (l : Line) where
   -- one of the first n tokens, and it has bytes
   pub record SomeBytes (n : ℕ) : Type 0 where
     pub place : ℕ
     pub within : place < n
-    pub bytes : 0 < length_in pairs place
+    pub bytes : 0 < length_in l.pairs place
 
-  pub bytes-some : (n : ℕ) → (bytes_of pairs n ≡ 0 → ⊥) → SomeBytes n
+  pub bytes-some : (n : ℕ) → (bytes_of l n ≡ 0 → ⊥) → SomeBytes n
   unfolding bytes_of
   bytes-some zero h = absurd (h refl)
-  bytes-some (suc n) h = by (dec_lt 0 (length_in pairs n)) (bytes-some n)
+  bytes-some (suc n) h = by (dec_lt 0 (length_in l.pairs n)) (bytes-some n)
     where
-      by : Dec (0 < length_in pairs n) → ((bytes_of pairs n ≡ 0 → ⊥) → SomeBytes n) → SomeBytes (suc n)
+      by : Dec (0 < length_in l.pairs n) → ((bytes_of l n ≡ 0 → ⊥) → SomeBytes n) → SomeBytes (suc n)
       by (yes g) rest = record { place = n; within = omega arith; bytes = g }
       by (no g) rest =
           let w = rest (λ z. h (omega (arith, z, g))) in
           record { place = w.place; within = omega (arith, w.within); bytes = w.bytes }
 
-  pub some-bytes : (n q : ℕ) → q < n → 0 < length_in pairs q → bytes_of pairs n ≡ 0 → ⊥
+  pub some-bytes : (n q : ℕ) → q < n → 0 < length_in l.pairs q → bytes_of l n ≡ 0 → ⊥
   unfolding bytes_of
   some-bytes zero q lt h z = omega (arith, lt)
   some-bytes (suc n) q lt h z = by (dec_lt q n) (λ g. some-bytes n q g h (omega (arith, z)))
@@ -59,5 +59,5 @@ module _ (pairs : List ℕ) where
       by (yes g) earlier = earlier g
       by (no g) earlier =
           let e : q ≡ n = omega (arith, lt, g) in
-          let f : length_in pairs q ≡ length_in pairs n = ap (length_in pairs) e in
+          let f : length_in l.pairs q ≡ length_in l.pairs n = ap (length_in l.pairs) e in
           omega (arith, f, h, z)

@@ -24,13 +24,13 @@ abbrev pub id_count : (kinds : List ℕ) → Option ℕ
 id_count kinds = position ends_id kinds
 
 -- how many bytes the first n tokens have, AttrRef ones too
-unfoldable pub bytes_of : (pairs : List ℕ) → (n : ℕ) → ℕ
-bytes_of pairs zero = 0
-bytes_of pairs (suc n) = bytes_of pairs n + length_in pairs n
+unfoldable pub bytes_of : Line → (n : ℕ) → ℕ
+bytes_of l zero = 0
+bytes_of l (suc n) = bytes_of l n + length_in l.pairs n
 
 -- "has an id of no bytes": the id is the first n tokens
-abbrev pub no_bytes : (pairs : List ℕ) → (n : ℕ) → Bool
-no_bytes pairs n = eqb (bytes_of pairs n) 0
+abbrev pub no_bytes : Line → (n : ℕ) → Bool
+no_bytes l n = eqb (bytes_of l n) 0
 
 -- ---- the reference text; `rest` is what stands after the Comma
 
@@ -80,7 +80,7 @@ after_id is_entire_line kinds n =
 
 unfoldable pub with_id : (is_entire_line : Bool) → Line → Option ℕ → Numbers
 with_id is_entire_line l None = refused anchor_malformed
-with_id is_entire_line l (Some n) = cond (no_bytes l.pairs n) (refused anchor_malformed) (after_id is_entire_line l.kinds n)
+with_id is_entire_line l (Some n) = cond (no_bytes l n) (refused anchor_malformed) (after_id is_entire_line l.kinds n)
 
 -- ---- any line
 

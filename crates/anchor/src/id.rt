@@ -1,5 +1,6 @@
 // The first token of an anchor's line, and its id.
 ghost use Rattle.std.specs.Prelude.{◌≡◌, ◌≤◌, not, length};
+ghost use Rattle.token.specs.Checked.{line_in};
 ghost use Rattle.anchor.specs.Anchor.{begins_none, id_count, no_bytes};
 
 use token::kind::TokenKind;
@@ -32,7 +33,7 @@ pub(crate) fn id_count(kinds: &[u8]) -> Option<usize>
 // Whether any of the first n tokens has bytes, AttrRef ones too.
 pub(crate) fn has_bytes(line: Line<'_>, n: usize) -> bool
     requires { n ≤ length line.kinds.now }
-    ensures { result ≡ not (no_bytes line.entry.pairs.now n) }
+    ensures { result ≡ not (no_bytes (line_in line.entry) n) }
 {
     let (lexemes, _) = line.pairs.as_chunks::<2>();
     lexemes[..n].iter().any(|[_, length]| *length != 0)

@@ -1,10 +1,11 @@
 // What is printed of a line of the file: what the reader answers, or what is wrong with the line.
 use crate::call::{Asked, Call};
-use crate::division::{parts_of, signs};
+use crate::division::{Part, parts_of, parts_of_anchor, signs};
 use crate::reader::{self, List, Reading};
 use crate::rows::Shown;
 use crate::soft::{softened, write_line};
-use crate::tokens::Fault;
+use crate::tokens::{Fault, Line};
+use anchor::Anchor;
 use refusals::Refusal;
 use std::io;
 
@@ -49,6 +50,13 @@ fn tell_call(rt: &(impl Print + AllocGlobal), number: u64, call: &Call<'_>) -> i
                 Err(refusal) => tell_refusal(rt, refusal),
             }
         }
+        Asked::Anchor { is_entire_line } => {
+            match reader::read_anchor(rt.alloc(), &call.line, is_entire_line)? {
+                Ok(Some(anchor)) => tell_anchor(rt, &call.line, anchor),
+                Ok(None) => println!(rt; "  no anchor"),
+                Err(refusal) => tell_refusal(rt, refusal),
+            }
+        }
     }
 }
 
@@ -72,15 +80,38 @@ fn tell_reading(
     for row in &reading.rows {
         shown.write_row(rt, *row)?;
     }
-    match reading.consumed {
-        1 => println!(rt; "  1 token consumed")?,
-        tokens => println!(rt; "  {tokens} tokens consumed")?,
-    }
+    tell_consumed(rt, reading.consumed)?;
     match reading.rejoined {
         0 => Ok(()),
         1 => println!(rt; "  1 comma taken back"),
         commas => println!(rt; "  {commas} commas taken back"),
     }
+}
+
+// Prints an anchor: where its id and its reference text stand, both, and how many tokens are consumed.
+fn tell_anchor(rt: &(impl Print + AllocGlobal), line: &Line, anchor: Anchor) -> io::Result<()> {
+    let parts = parts_of_anchor(rt.alloc(), &line.tokens, anchor)?;
+    draw(rt, line, &parts)?;
+    let text = softened(rt.alloc(), &line.text)?;
+    let shown = Shown {
+        tokens: &line.tokens,
+        text: &text,
+    };
+    shown.write_anchor(rt, anchor)?;
+    tell_consumed(rt, anchor.consumed)
+}
+
+fn tell_consumed(rt: &impl Print, consumed: usize) -> io::Result<()> {
+    match consumed {
+        1 => println!(rt; "  1 token consumed"),
+        tokens => println!(rt; "  {tokens} tokens consumed"),
+    }
+}
+
+// Draws signs under the text of a line.
+fn draw(rt: &(impl Print + AllocGlobal), line: &Line, parts: &[Part]) -> io::Result<()> {
+    rt.write_all(b"  ")?;
+    write_line(rt, &signs(rt.alloc(), &line.text, parts)?)
 }
 
 // Draws the division of a line, under its text, up to the closing bracket, which is the last token consumed.
@@ -95,6 +126,5 @@ fn draw_division(
     let closing = bracket.map_or(0, |token| token.bytes().start);
     let division = list.division(alloc)?;
     let parts = parts_of(alloc, &line.tokens, &division, closing)?;
-    rt.write_all(b"  ")?;
-    write_line(rt, &signs(alloc, &line.text, &parts)?)
+    draw(rt, line, &parts)
 }

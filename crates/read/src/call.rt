@@ -3,11 +3,12 @@ use crate::tokens::{Fault, Line, Problem};
 use attr_list::entries::Entry;
 use std::alloc::Global;
 
-// What a first word asks: whether the line is a block attribute list, or one of the four readings.
+// What a first word asks: whether the line is a block attribute list, one of the four readings, or the anchor, of a whole line or within one.
 #[derive(Clone, Copy)]
 pub(crate) enum Asked {
     IsBlock,
     List(Entry),
+    Anchor { is_entire_line: bool },
 }
 
 impl TryFrom<&[u8]> for Asked {
@@ -21,6 +22,12 @@ impl TryFrom<&[u8]> for Asked {
             b"inline" => Ok(Asked::List(Entry::Inline)),
             b"link" => Ok(Asked::List(Entry::Link)),
             b"is" => Ok(Asked::IsBlock),
+            b"block-anchor" => Ok(Asked::Anchor {
+                is_entire_line: true,
+            }),
+            b"inline-anchor" => Ok(Asked::Anchor {
+                is_entire_line: false,
+            }),
             _ => Err(Problem::UnknownEntry),
         }
     }

@@ -1,10 +1,12 @@
-// How a line that is read is divided, drawn under its text.
+// How a line that is read is divided, and where an anchor's id and reference text stand, drawn under its text.
 ghost use Rattle.std.specs.Prelude.{◌<◌, length};
 
 use crate::reader::Division;
 use crate::tokens::Token;
+use anchor::Anchor;
 use std::alloc::{AllocError, Global};
 use std::ops::Range;
+use token::Run;
 use token::kind::TokenKind;
 
 // What a byte of the text belongs to.
@@ -55,6 +57,35 @@ pub(crate) fn parts_of(
     }
     mark(&mut parts, start..closing, Part::Attribute);
     mark_taken_back(&mut parts, tokens, division.counted);
+    Ok(parts)
+}
+
+// The bytes from a run's first token to its last.
+fn bytes_of(tokens: &[Token], run: Run) -> Range<usize> {
+    let start = run.place.0;
+    let among = tokens.get(start..start.saturating_add(run.count));
+    match among.and_then(|run| run.first().zip(run.last())) {
+        Some((first, last)) => first.bytes().start..last.bytes().end,
+        None => 0..0,
+    }
+}
+
+// What each byte belongs to of a text up to the brackets that close an anchor.
+pub(crate) fn parts_of_anchor(
+    alloc: Global,
+    tokens: &[Token],
+    anchor: Anchor,
+) -> Result<Vec<Part>, AllocError> {
+    let id = bytes_of(tokens, anchor.id);
+    let comma = match tokens.get(anchor.id.count) {
+        Some(token) if token.kind == TokenKind::Comma => token.bytes(),
+        _ => id.end..id.end,
+    };
+    let reftext = bytes_of(tokens, anchor.reftext);
+    let mut parts = vec![in alloc; Part::Nothing; comma.end.max(reftext.end)]?;
+    mark(&mut parts, id, Part::Attribute);
+    mark(&mut parts, comma, Part::Comma);
+    mark(&mut parts, reftext, Part::Attribute);
     Ok(parts)
 }
 

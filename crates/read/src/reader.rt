@@ -2,6 +2,7 @@
 ghost use Rattle.std.specs.Prelude.{◌≡◌, vec_len};
 
 use crate::tokens::Line;
+use anchor::Anchor;
 use attr_list::entries::Entry;
 use closing::LinkMacro;
 use refusals::Refusal;
@@ -47,6 +48,17 @@ pub(crate) fn is_block(alloc: Global, line: &Line) -> Result<Result<bool, Refusa
     let lent = Lent::new(alloc, line)?;
     let pairs = lent.pairs.as_flattened();
     Ok(attr_list::is_block_attr_list(&lent.kinds, &line.text, pairs))
+}
+
+// The anchor of a line, a whole one or the rest of one.
+pub(crate) fn read_anchor(
+    alloc: Global,
+    line: &Line,
+    is_entire_line: bool,
+) -> Result<Result<Option<Anchor>, Refusal>, AllocError> {
+    let lent = Lent::new(alloc, line)?;
+    let pairs = lent.pairs.as_flattened();
+    Ok(anchor::parse_anchor(&lent.kinds, &line.text, pairs, is_entire_line))
 }
 
 // A line that one of the four readings is asked to read.

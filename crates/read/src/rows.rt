@@ -1,5 +1,6 @@
-// The rows that a reading finds, in words.
+// The rows that a reading finds, and an anchor, in words.
 use crate::tokens::Token;
+use anchor::Anchor;
 use row::diagnostic::Diagnostic;
 use row::tag::Tag;
 use row::{Row, WIDTH};
@@ -45,15 +46,40 @@ pub(crate) struct Shown<'a> {
 }
 
 impl Shown<'_> {
-    // Writes a label, and what a run says: the texts of its tokens, AttrRef tokens skipped.
-    fn write_run(self, rt: &impl Print, label: &str, run: Run) -> io::Result<()> {
+    // Writes a label, and the texts of a run's tokens, of which those of one kind may be skipped.
+    fn write_tokens(
+        self,
+        rt: &impl Print,
+        label: &str,
+        run: Run,
+        skipped: Option<TokenKind>,
+    ) -> io::Result<()> {
         print!(rt; "{label}`")?;
         for token in self.tokens.iter().skip(run.place.0).take(run.count) {
-            if token.kind != TokenKind::AttrRef {
+            if skipped != Some(token.kind) {
                 rt.write_all(self.text.get(token.bytes()).unwrap_or(b""))?;
             }
         }
         rt.write_all(b"`")
+    }
+
+    // Writes a label, and what a run of a row says: AttrRef tokens are skipped.
+    fn write_run(self, rt: &impl Print, label: &str, run: Run) -> io::Result<()> {
+        self.write_tokens(rt, label, run, Some(TokenKind::AttrRef))
+    }
+
+    // Writes an anchor's id and its reference text, if it has one, each on a line of its own: AttrRef tokens are kept.
+    pub(crate) fn write_anchor(self, rt: &impl Print, anchor: Anchor) -> io::Result<()> {
+        self.write_tokens(rt, "  id ", anchor.id, None)?;
+        rt.write_all(b"\n")?;
+        if anchor.reftext.count == 0 {
+            return Ok(());
+        }
+        self.write_tokens(rt, "  reference text ", anchor.reftext, None)?;
+        if anchor.discard {
+            rt.write_all(b", its first token as Discard")?;
+        }
+        rt.write_all(b"\n")
     }
 
     // Writes a row: its tag, then what its runs say.

@@ -5,8 +5,9 @@
  * what every answer must keep: the refusal is of the table, 1 is given exactly where there is no
  * token and 2 where the reader's limit is passed, the viewer answers as the main reader does within
  * its limit, a refused call leaves the row buffer and the set, no number behind the rows changes,
- * every row has a tag, runs in the line and a quote mark that its tag may have, and no more commas
- * are taken back than are counted.
+ * every row has a tag, runs in the line and a quote mark that its tag may have, no more commas are
+ * taken back than are counted, an anchor's runs stand beside the Comma and the brackets that end
+ * them, and a line that is lent to an anchor's entry is left as it was.
  *
  *   memory CALLS SEED
  */
@@ -16,7 +17,7 @@
 #include <stdlib.h>
 #include <string.h>
 
-enum { ROW = 6, CLOSE_BRACKET = 10, COMMA = 13, OPEN_BRACKET = 34, VIEWER_TOKENS = 256 };
+enum { ROW = 6, CLOSE_BRACKET = 10, COMMA = 13, OPEN_BRACKET = 34, WORD = 50, VIEWER_TOKENS = 256 };
 
 static uint64_t state;
 
@@ -86,6 +87,31 @@ static struct line some_line(void) {
     for (size_t i = 0; i < at; i++)
         l.text[i] = (uint8_t)texts[below(sizeof texts - 1)];
     return l;
+}
+
+static void free_line(struct line *l) {
+    free(l->pairs);
+    free(l->text);
+    free(l->kinds);
+}
+
+static bool same_bytes(const void *a, const void *b, size_t bytes) {
+    return bytes == 0 || memcmp(a, b, bytes) == 0;
+}
+
+static void *copied(const void *from, size_t bytes) {
+    void *p = exactly(bytes);
+    if (bytes != 0)
+        memcpy(p, from, bytes);
+    return p;
+}
+
+static struct line copy_of(const struct line *l) {
+    struct line copy = *l;
+    copy.kinds = copied(l->kinds, l->tokens);
+    copy.text = copied(l->text, l->bytes);
+    copy.pairs = copied(l->pairs, l->numbers * sizeof *l->pairs);
+    return copy;
 }
 
 /* one thing made wrong */
@@ -226,9 +252,78 @@ static void one_list(void) {
     *(is.refusal == 0 ? &read_calls : &refused_calls) += 1;
     free(before);
     free(rows);
-    free(l.pairs);
-    free(l.text);
-    free(l.kinds);
+    free_line(&l);
+}
+
+/* the kinds of a line made those of an anchor, more often than not */
+static void like_an_anchor(struct line *l) {
+    if (l->tokens == 0)
+        return;
+    if (below(4))
+        l->kinds[0] = WORD;
+    if (l->tokens > 3 && below(4))
+        l->kinds[1 + below(3)] = COMMA;
+    for (size_t i = l->tokens - 1; i > 0 && i + 2 >= l->tokens; i--)
+        if (below(8))
+            l->kinds[i] = CLOSE_BRACKET;
+    if (l->tokens > 2 && below(3) == 0) {
+        size_t at = below((uint32_t)l->tokens - 1);
+        l->kinds[at] = l->kinds[at + 1] = CLOSE_BRACKET;
+    }
+}
+
+static void look_at_anchor(const struct line *l, bool whole, telfjost_anchor a) {
+    const uint8_t *kinds = l->kinds;
+    if (a.anchor > 1 || a.discard > 1)
+        wrong("no such answer of an anchor");
+    if (a.refusal != 0 || a.anchor == 0) {
+        if (a.anchor != 0 || a.id_place != 0 || a.id_count != 0 || a.text_place != 0 ||
+            a.text_count != 0 || a.consumed != 0 || a.discard != 0)
+            wrong("a refusal or no anchor with another number");
+        return;
+    }
+    if (a.id_place != 0 || a.id_count == 0 || a.id_count >= a.consumed || a.consumed > l->tokens)
+        wrong("an id outside what is consumed, or more tokens than the line has");
+    bool comma = kinds[a.id_count] == COMMA;
+    if (!comma && kinds[a.id_count] != CLOSE_BRACKET)
+        wrong("an id that does not run to a Comma or CloseBracket");
+    if (!comma && (a.text_count != 0 || a.consumed > a.id_count + 2))
+        wrong("a text without a Comma, or over two tokens dropped");
+    if (a.text_count == 0 && (a.text_place != 0 || a.discard != 0))
+        wrong("an absent text with a place or a Discard");
+    if (a.text_count != 0 && a.text_place != a.id_count + 1)
+        wrong("a text that is not behind its Comma");
+    if (comma && (a.id_count + 1 + a.text_count + 2 != a.consumed ||
+                  kinds[a.consumed - 1] != CLOSE_BRACKET || kinds[a.consumed - 2] != CLOSE_BRACKET))
+        wrong("a text that two brackets do not close");
+    if (comma && whole && a.consumed != l->tokens)
+        wrong("a whole line that is not all consumed");
+}
+
+typedef telfjost_anchor anchor(const uint8_t *, size_t, const uint8_t *, size_t, const uint32_t *,
+                               size_t);
+
+static anchor *const anchors[2] = {telfjost_inline_anchor, telfjost_block_anchor};
+
+static void one_anchor(void) {
+    struct line l = some_line();
+    like_an_anchor(&l);
+    if (below(3) == 0)
+        damage(&l);
+    struct line before = copy_of(&l);
+    bool whole = below(2);
+    telfjost_anchor a = anchors[whole](l.kinds, l.tokens, l.text, l.bytes, l.pairs, l.numbers);
+    if (a.refusal > 6 && a.refusal != 12)
+        wrong("no such refusal of an anchor");
+    if ((a.refusal == 1) != (l.tokens == 0) || (a.refusal == 2) != (l.tokens > 4096))
+        wrong("1 or 2 of an anchor for another limit");
+    if (!same_bytes(l.kinds, before.kinds, l.tokens) || !same_bytes(l.text, before.text, l.bytes) ||
+        !same_bytes(l.pairs, before.pairs, l.numbers * sizeof *l.pairs))
+        wrong("a line that is lent for an anchor is altered");
+    look_at_anchor(&l, whole, a);
+    *(a.refusal == 0 ? &read_calls : &refused_calls) += 1;
+    free_line(&before);
+    free_line(&l);
 }
 
 static const char *const parts[] = {
@@ -311,6 +406,7 @@ int main(int argc, char **argv) {
     state = state * 2 + 1;
     while (read_calls + refused_calls < calls) {
         one_list();
+        one_anchor();
         one_subs();
         one_walk();
     }

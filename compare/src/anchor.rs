@@ -49,12 +49,11 @@ fn closed(entry: AnchorEntry, line: Lent<'_>) -> Option<Anchor> {
 /// with no escape".
 fn text_end(entry: AnchorEntry, line: Lent<'_>, text: usize) -> Option<usize> {
     let tokens = line.kinds.len();
-    let mut closing = (text..tokens).filter(|place| kind(line, *place) == CloseBracket);
+    let closes = |place: &usize| kind(line, *place) == CloseBracket;
     let first = match entry {
-        AnchorEntry::Block => tokens.checked_sub(2).filter(|first| *first >= text)?,
-        AnchorEntry::Inline => closing.next()?,
+        AnchorEntry::Block => tokens - 2,
+        AnchorEntry::Inline => (text..tokens).find(closes)?,
     };
-    let both =
-        first + 1 < tokens && kind(line, first) == CloseBracket && kind(line, first + 1) == CloseBracket;
+    let both = first >= text && first + 1 < tokens && [first, first + 1].iter().all(closes);
     both.then_some(first)
 }

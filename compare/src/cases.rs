@@ -1,9 +1,11 @@
 //! The generated cases. Each is cut into pieces that two threads share; a piece is the same on
 //! every run from the same seed.
 
+use crate::anchor_cases;
 use crate::check::{Checked, SUBS_NAMES, Worker};
 use crate::lines::{
-    HALVES, LineBuf, SIGNIFICANT, Tok, any_kinds_line, commas_and_quotes, random_line, spoil_utf8,
+    A, BACK, CLOSE, COMMA, DOT, DOTS, DOUBLE, EQUAL, EQUALS, HALVES, HASH, LineBuf, OPEN, PERCENT, REF,
+    SIGNIFICANT, SINGLE, SPACE, Tok, any_kinds_line, commas_and_quotes, random_line, spoil_utf8,
 };
 use crate::model::{self, MOST_BYTES, MOST_TOKENS, VIEWER_TOKENS};
 use crate::rng::Rng;
@@ -16,37 +18,23 @@ pub struct Piece {
     pub run: Box<dyn Fn(&mut Worker<'_>) -> Checked + Send + Sync>,
 }
 
-fn piece(class: &'static str, run: impl Fn(&mut Worker<'_>) -> Checked + Send + Sync + 'static) -> Piece {
+pub fn piece(class: &'static str, run: impl Fn(&mut Worker<'_>) -> Checked + Send + Sync + 'static) -> Piece {
     Piece { class, run: Box::new(run) }
 }
 
 // ---- every line up to a length
 
-struct Every {
-    class: &'static str,
-    alphabet: Vec<Tok>,
-    before: Vec<Tok>,
-    after: Vec<Tok>,
-    longest: usize,
-    entries: &'static [Entry],
+pub struct Every {
+    pub class: &'static str,
+    pub alphabet: Vec<Tok>,
+    pub before: Vec<Tok>,
+    pub after: Vec<Tok>,
+    pub longest: usize,
+    /// The entries of lists that read each line.
+    pub entries: &'static [Entry],
 }
 
 const BOTH_ENDS: &[Entry] = &[Entry::Block, Entry::Inline];
-const A: Tok = (Word, "a");
-const REF: Tok = (AttrRef, "{x}");
-const SPACE: Tok = (Whitespace, " ");
-const COMMA: Tok = (Comma, ",");
-const DOUBLE: Tok = (DoubleQuote, "\"");
-const SINGLE: Tok = (SingleQuote, "'");
-const EQUAL: Tok = (EqualSigns, "=");
-const EQUALS: Tok = (EqualSigns, "==");
-const DOT: Tok = (Dots, ".");
-const DOTS: Tok = (Dots, "...");
-const HASH: Tok = (Hash, "#");
-const PERCENT: Tok = (Percent, "%");
-const OPEN: Tok = (OpenBracket, "[");
-const CLOSE: Tok = (CloseBracket, "]");
-const BACK: Tok = (Backslash, "\\");
 
 /// Calls `f` with every line of `len` tokens of the alphabet that begins with `first`.
 fn each_line(every: &Every, first: usize, len: usize, f: &mut dyn FnMut(&LineBuf) -> Checked) -> Checked {
@@ -88,7 +76,11 @@ fn room(tokens: usize, turn: u32) -> usize {
     }
 }
 
-fn every_line(every: Every) -> Vec<Piece> {
+/// What is done with each line of an enumeration; the last is a number of its own to count turns.
+pub type EachLine = fn(&mut Worker<'_>, &Every, &LineBuf, &mut u32) -> Checked;
+
+/// A piece for each length and first token.
+pub fn every_line(every: Every, each: EachLine) -> Vec<Piece> {
     let every = std::sync::Arc::new(every);
     let mut pieces = Vec::new();
     for len in 1..=every.longest {
@@ -96,17 +88,21 @@ fn every_line(every: Every) -> Vec<Piece> {
             let every = every.clone();
             pieces.push(piece(every.class, move |worker| {
                 let mut turn = 0;
-                each_line(&every, first, len, &mut |line| {
-                    for entry in every.entries {
-                        turn += 1;
-                        worker.list(*entry, line.lent(), room(line.kinds.len(), turn), turn)?;
-                    }
-                    Ok(())
-                })
+                each_line(&every, first, len, &mut |line| each(worker, &every, line, &mut turn))
             }));
         }
     }
     pieces
+}
+
+fn every_list(every: Every) -> Vec<Piece> {
+    every_line(every, |worker, every, line, turn| {
+        for entry in every.entries {
+            *turn += 1;
+            worker.list(*entry, line.lent(), room(line.kinds.len(), *turn), *turn)?;
+        }
+        Ok(())
+    })
 }
 
 fn exhaustive_lists(more: usize) -> Vec<Piece> {
@@ -232,38 +228,51 @@ fn exhaustive_lists(more: usize) -> Vec<Piece> {
             entries: &[Entry::Link, Entry::Inline],
         },
     ];
-    sets.into_iter().flat_map(every_line).collect()
+    sets.into_iter().flat_map(every_list).collect()
 }
 
 // ---- random lines
 
 /// Makes a line of so many tokens.
-type Make = fn(&mut LineBuf, &mut Rng, usize);
+pub type Make = fn(&mut LineBuf, &mut Rng, usize);
 
 /// The lengths from the first number to the second.
-type Lengths = (usize, usize);
+pub type Lengths = (usize, usize);
 
-fn some_length(rng: &mut Rng, (from, to): Lengths) -> usize {
+pub fn some_length(rng: &mut Rng, (from, to): Lengths) -> usize {
     from + rng.below(to + 1 - from)
 }
 
 const AT_THE_VIEWERS_LIMIT: Lengths = (VIEWER_TOKENS - 2, VIEWER_TOKENS + 2);
 
+/// Random lines of one making; `each` is also told the line's turn.
+pub fn random_lines(
+    class: &'static str,
+    seed: u64,
+    lines: u32,
+    lengths: Lengths,
+    make: Make,
+    each: fn(&mut Worker<'_>, &LineBuf, &mut Rng, u32) -> Checked,
+) -> Piece {
+    piece(class, move |worker| {
+        let mut rng = Rng::new(seed);
+        let mut line = LineBuf::default();
+        for turn in 0..lines {
+            let len = some_length(&mut rng, lengths);
+            make(&mut line, &mut rng, len);
+            each(worker, &line, &mut rng, turn)?;
+        }
+        Ok(())
+    })
+}
+
 fn random_lists(seed: u64, share: usize) -> Vec<Piece> {
     let mut pieces = Vec::new();
-    let mut add = |class, seed: u64, lines: usize, lengths: Lengths, make: Make| {
-        pieces.push(piece(class, move |worker| {
-            let mut rng = Rng::new(seed);
-            let mut line = LineBuf::default();
-            for turn in 0..lines as u32 {
-                let len = some_length(&mut rng, lengths);
-                make(&mut line, &mut rng, len);
-                let numbers = if rng.one_in(4) { ROW * len + rng.below(4 * len) } else { room(len, turn) };
-                for entry in ENTRIES {
-                    worker.list(entry, line.lent(), numbers, turn)?;
-                }
-            }
-            Ok(())
+    let mut add = |class, seed: u64, lines: u32, lengths: Lengths, make: Make| {
+        pieces.push(random_lines(class, seed, lines, lengths, make, |worker, line, rng, turn| {
+            let len = line.kinds.len();
+            let numbers = if rng.one_in(4) { ROW * len + rng.below(4 * len) } else { room(len, turn) };
+            ENTRIES.into_iter().try_for_each(|entry| worker.list(entry, line.lent(), numbers, turn))
         }));
     };
     for part in 0..share as u64 {
@@ -300,6 +309,24 @@ fn random_lists(seed: u64, share: usize) -> Vec<Piece> {
     pieces
 }
 
+/// A line of `len` tokens whose middle is the tokens of `mix`, again and again. Its text has `bytes`
+/// bytes, or only its lexemes where that is 0.
+pub fn long_line(before: &[Tok], mix: &[Tok], after: &[Tok], len: usize, bytes: usize) -> LineBuf {
+    let mut line = LineBuf::of(before);
+    for place in 0..len - before.len() - after.len() {
+        line.push_all(&mix[place % mix.len()..=place % mix.len()]);
+    }
+    if bytes > 0 {
+        let grow = bytes - line.text.len() - after.iter().map(|(_, text)| text.len()).sum::<usize>();
+        line.text.extend(std::iter::repeat_n(b'a', grow));
+    }
+    line.push_all(after);
+    line
+}
+
+/// The lengths of a text at its limit; 0 is that of the lexemes alone.
+pub const BYTES: [usize; 4] = [0, MOST_BYTES - 1, MOST_BYTES, MOST_BYTES + 1];
+
 /// Lines at the limits: 4,096 tokens of one kind or of hard mixes, 256 for the viewer, 65,535 bytes.
 fn limits() -> Vec<Piece> {
     let mixes: [&'static [Tok]; 14] = [
@@ -324,16 +351,8 @@ fn limits() -> Vec<Piece> {
             piece("lines at the limits", move |worker| {
                 let lengths = [VIEWER_TOKENS, MOST_TOKENS].map(|most| [most - 1, most, most + 1]);
                 for &len in lengths.as_flattened() {
-                    for bytes in [0, MOST_BYTES - 1, MOST_BYTES, MOST_BYTES + 1] {
-                        let mut line = LineBuf::default();
-                        for place in 0..len - 1 {
-                            line.push_all(&mix[place % mix.len()..=place % mix.len()]);
-                        }
-                        if bytes > 0 {
-                            let grow = bytes - line.text.len() - 1;
-                            line.text.extend(std::iter::repeat_n(b'a', grow));
-                        }
-                        line.push_all(&[CLOSE]);
+                    for bytes in BYTES {
+                        let line = long_line(&[], mix, &[CLOSE], len, bytes);
                         for entry in ENTRIES {
                             for numbers in [ROW * len, ROW * len - 1, (ROW - 1) * len, ROW * len + 7] {
                                 worker.list(entry, line.lent(), numbers, len as u32)?;
@@ -418,6 +437,25 @@ fn damage(line: &mut LineBuf, rng: &mut Rng, fault: usize, numbers: &mut Option<
     }
 }
 
+/// One to three faults; gives the length of the row buffer, if that is one of them.
+pub fn faults(line: &mut LineBuf, rng: &mut Rng) -> Option<usize> {
+    let mut numbers = None;
+    for _ in 0..1 + rng.below(3) {
+        // Long texts and many tokens are dear, and few tell as much as many.
+        let fault = match 1 + rng.below(8) {
+            fault @ (2 | 3) if !rng.one_in(40) => fault + 2,
+            fault => fault,
+        };
+        damage(line, rng, fault, &mut numbers);
+    }
+    numbers
+}
+
+/// A damaged line's text for the Rust: damage may put a lexeme into a gap or inside a character.
+pub fn in_ascii(text: &[u8]) -> Vec<u8> {
+    text.iter().map(|b| if b.is_ascii() { *b } else { b'Z' }).collect()
+}
+
 /// Random lines, of the lengths that `length` picks, with one to three faults each.
 fn damaged_lines(
     class: &'static str,
@@ -431,18 +469,9 @@ fn damaged_lines(
         for turn in 0..lines {
             let len = length(&mut rng);
             random_line(&mut line, &mut rng, len);
-            let mut numbers = None;
-            for _ in 0..1 + rng.below(3) {
-                // Long texts and many tokens are dear, and few tell as much as many.
-                let fault = match 1 + rng.below(8) {
-                    fault @ (2 | 3) if !rng.one_in(40) => fault + 2,
-                    fault => fault,
-                };
-                damage(&mut line, &mut rng, fault, &mut numbers);
-            }
+            let numbers = faults(&mut line, &mut rng);
             let numbers = numbers.unwrap_or(ROW * line.kinds.len() + rng.below(3));
-            // Damage may put a lexeme into a gap or inside a character.
-            let for_rust: Vec<u8> = line.text.iter().map(|b| if b.is_ascii() { *b } else { b'Z' }).collect();
+            let for_rust = in_ascii(&line.text);
             for entry in ENTRIES {
                 worker.list_for(entry, line.lent(), &for_rust, numbers, turn)?;
             }
@@ -469,7 +498,7 @@ fn damaged(seed: u64, share: usize) -> Vec<Piece> {
 // ---- is_block_attr_list
 
 fn block_tests(seed: u64, share: usize) -> Vec<Piece> {
-    let every = std::sync::Arc::new(Every {
+    let every = Every {
         class: "is_block_attr_list, every line",
         alphabet: vec![
             OPEN,
@@ -487,16 +516,8 @@ fn block_tests(seed: u64, share: usize) -> Vec<Piece> {
         after: vec![],
         longest: 5,
         entries: &[],
-    });
-    let mut pieces = Vec::new();
-    for len in 1..=every.longest {
-        for first in 0..every.alphabet.len() {
-            let every = every.clone();
-            pieces.push(piece(every.class, move |worker| {
-                each_line(&every, first, len, &mut |line| worker.is_block_attr_list(line.lent()))
-            }));
-        }
-    }
+    };
+    let mut pieces = every_line(every, |worker, _, line, _| worker.is_block_attr_list(line.lent()));
     for part in 0..8 * share as u64 {
         let seed = seed.wrapping_add(8 + (part << 8));
         pieces.push(piece("is_block_attr_list, random lines", move |worker| {
@@ -807,6 +828,7 @@ pub fn gate(seed: u64) -> Vec<Piece> {
     let mut pieces = block_tests(seed, 8);
     pieces.extend(moves(seed, 2));
     pieces.extend(sets(seed, 2));
+    pieces.extend(anchor_cases::gate(seed));
     pieces.extend(exhaustive_lists(0));
     pieces.extend(damaged(seed, 8));
     pieces.extend(random_lists(seed, 20));
@@ -816,13 +838,16 @@ pub fn gate(seed: u64) -> Vec<Piece> {
 
 /// Longer enumerations, for the long run; once.
 pub fn longer() -> Vec<Piece> {
-    exhaustive_lists(1)
+    let mut pieces = exhaustive_lists(1);
+    pieces.extend(anchor_cases::exhaustive(1));
+    pieces
 }
 
 /// Random cases of another seed, for the long run; again and again.
 pub fn fresh(seed: u64) -> Vec<Piece> {
     let mut pieces = random_lists(seed, 4);
     pieces.extend(damaged(seed, 4));
+    pieces.extend(anchor_cases::random(seed, 4));
     pieces.extend(block_tests(seed, 1).into_iter().filter(|p| p.class.ends_with("random lines")));
     let of_sets = sets(seed, 2).into_iter().chain(moves(seed, 2));
     pieces.extend(of_sets.filter(|p| p.class.starts_with("random") || p.class.starts_with("long")));

@@ -9,7 +9,9 @@ use crate::lines::LineBuf;
 use crate::model::{self, MOST_TOKENS, VIEWER_TOKENS};
 use crate::numbers::{MARKED, Row, Unmarked};
 use crate::reading::{Reading, commas_inside};
-use crate::rust_side::{self, AnchorEntry, Entry, KINDS, Lent, Mode, Move, Outcome, ROW, STARTS, Set};
+use crate::rust_side::{
+    self, ANCHOR_ENTRIES, AnchorEntry, Entry, KINDS, Lent, Mode, Move, Outcome, ROW, STARTS, Set,
+};
 
 /// Numbers before and behind the row buffer that no call may touch.
 const GUARD: usize = 8;
@@ -33,6 +35,8 @@ pub struct Tally {
     pub other_closing: u64,
     /// Calls of the viewer, by what is due of it: see `VIEWED`.
     pub viewed: [u64; 4],
+    /// Anchors of each entry, by what is due: see `ANCHORED`.
+    pub anchors: [[u64; ANCHORED.len()]; ANCHOR_ENTRIES.len()],
     pub panics: BTreeMap<String, u64>,
 }
 
@@ -43,6 +47,33 @@ pub const VIEWED: [&str; 4] = [
     "2 where the main reader reads",
     "2 where the main reader refuses with 3 to 8",
 ];
+
+/// What is due of the line of an anchor, in the order of `Tally::anchors`.
+pub const ANCHORED: [&str; 11] = [
+    "no anchor",
+    "an id alone",
+    "an id and a text",
+    "an id and a text that begins with a Discard",
+    "refused with 12",
+    "with 1",
+    "with 2",
+    "with 3",
+    "with 4",
+    "with 5",
+    "with 6",
+];
+
+/// Where among `ANCHORED` an answer belongs.
+pub fn anchored(due: Anchor) -> usize {
+    match (due.refusal, due.anchor, due.text_count, due.discard) {
+        (0, 0, ..) => 0,
+        (0, _, 0, _) => 1,
+        (0, .., 0) => 2,
+        (0, ..) => 3,
+        (12, ..) => 4,
+        (refusal, ..) => 4 + refusal,
+    }
+}
 
 /// What a move did, in the order of `Tally::moves`.
 pub const MOVED: [&str; 6] = [
@@ -70,6 +101,7 @@ impl Tally {
             (&mut self.taken_back[..], &other.taken_back[..]),
             (&mut self.moves[..], &other.moves[..]),
             (&mut self.viewed[..], &other.viewed[..]),
+            (self.anchors.as_flattened_mut(), other.anchors.as_flattened()),
         ];
         for (mine, theirs) in pairs {
             for (a, b) in mine.iter_mut().zip(theirs) {
@@ -339,18 +371,28 @@ impl<'l> Worker<'l> {
         Err(Box::new(words))
     }
 
+    /// Both entries of anchors, where the Rust is given another text of the same lengths.
+    pub fn anchors_for(&mut self, line: Lent<'_>, rust_text: &[u8]) -> Checked {
+        ANCHOR_ENTRIES.into_iter().try_for_each(|entry| self.anchor_for(entry, line, rust_text))
+    }
+
+    /// Both entries of anchors.
+    pub fn anchors(&mut self, line: Lent<'_>) -> Checked {
+        self.anchors_for(line, line.text)
+    }
+
     /// An entry of anchors.
     pub fn anchor(&mut self, entry: AnchorEntry, line: Lent<'_>) -> Checked {
         self.anchor_for(entry, line, line.text)
     }
 
-    /// The same, where the Rust is given another text of the same lengths.
-    pub fn anchor_for(&mut self, entry: AnchorEntry, line: Lent<'_>, rust_text: &[u8]) -> Checked {
+    fn anchor_for(&mut self, entry: AnchorEntry, line: Lent<'_>, rust_text: &[u8]) -> Checked {
         if !self.library.has_anchor(entry) {
             return Ok(());
         }
         let expected = expected_anchor(entry, line, rust_text)?;
         self.count(expected.refusal);
+        self.tally.anchors[entry as usize][anchored(expected)] += 1;
         self.lent.set(line);
         let null = line.kinds.len() % 2 == 0;
         let given = self.library.anchor(entry, &mut self.lent, null);

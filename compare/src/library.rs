@@ -37,6 +37,11 @@ impl Anchor {
     pub fn refused(refusal: usize) -> Self {
         Anchor { refusal, ..Anchor::default() }
     }
+
+    pub fn numbers(&self) -> [usize; 8] {
+        let Anchor { refusal, anchor, id_place, id_count, text_place, text_count, consumed, discard } = *self;
+        [refusal, anchor, id_place, id_count, text_place, text_count, consumed, discard]
+    }
 }
 
 #[derive(Debug, Clone, Copy, PartialEq, Eq)]

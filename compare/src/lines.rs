@@ -7,6 +7,22 @@ use crate::token::TokenKind::{self, *};
 /// A token by kind and text.
 pub type Tok = (TokenKind, &'static str);
 
+pub const A: Tok = (Word, "a");
+pub const REF: Tok = (AttrRef, "{x}");
+pub const SPACE: Tok = (Whitespace, " ");
+pub const COMMA: Tok = (Comma, ",");
+pub const DOUBLE: Tok = (DoubleQuote, "\"");
+pub const SINGLE: Tok = (SingleQuote, "'");
+pub const EQUAL: Tok = (EqualSigns, "=");
+pub const EQUALS: Tok = (EqualSigns, "==");
+pub const DOT: Tok = (Dots, ".");
+pub const DOTS: Tok = (Dots, "...");
+pub const HASH: Tok = (Hash, "#");
+pub const PERCENT: Tok = (Percent, "%");
+pub const OPEN: Tok = (OpenBracket, "[");
+pub const CLOSE: Tok = (CloseBracket, "]");
+pub const BACK: Tok = (Backslash, "\\");
+
 /// A line as it is lent: three vectors of its own.
 #[derive(Clone, Default)]
 pub struct LineBuf {
@@ -270,6 +286,63 @@ pub fn commas_and_quotes(line: &mut LineBuf, rng: &mut Rng, len: usize) {
         let (kind, text) = if closes { (CloseBracket, "]") } else { *rng.pick(&TOKENS) };
         line.push(kind, text.as_bytes());
     }
+}
+
+/// A line that may be an anchor's: most begin with a Word, have a Comma soon, and end in two
+/// CloseBrackets; some have two, or another Comma, elsewhere too. Each token keeps its text.
+pub fn anchor_line(line: &mut LineBuf, rng: &mut Rng, len: usize) {
+    if rng.one_in(3) {
+        any_kinds_line(line, rng, len);
+    } else {
+        random_line(line, rng, len);
+    }
+    let kinds = &mut line.kinds;
+    if !rng.one_in(6) {
+        kinds[0] = Word as u8;
+    }
+    let comma = 1 + rng.below(3);
+    if comma < len && !rng.one_in(4) {
+        kinds[comma] = Comma as u8;
+        if comma + 1 < len && rng.one_in(3) {
+            kinds[comma + 1] = *rng.pick(&[Whitespace as u8, Discard as u8]);
+        }
+    }
+    if len > 1 && rng.one_in(3) {
+        let at = rng.below(len - 1);
+        kinds[at..at + 2].fill(CloseBracket as u8);
+    }
+    for kind in kinds.iter_mut().rev().take(2) {
+        if !rng.one_in(8) {
+            *kind = CloseBracket as u8;
+        }
+    }
+}
+
+/// Tokens that the Rust may put into an email address, and others beside them. A MaybeEmail is here an
+/// address by itself, or one behind another token, or none.
+pub const EMAILS: [Tok; 12] = [
+    A,
+    SPACE,
+    DOT,
+    DOTS,
+    REF,
+    (Digits, "1"),
+    (Underscore, "_"),
+    (Plus, "+"),
+    (Word, ""),
+    (MaybeEmail, "u@ex.com"),
+    (MaybeEmail, "@ex.com"),
+    (MaybeEmail, "u"),
+];
+
+/// The line of an anchor with `len` tokens of email addresses in its reference text.
+pub fn email_line(line: &mut LineBuf, rng: &mut Rng, len: usize) {
+    line.clear();
+    line.push_all(&[A, COMMA]);
+    for _ in 0..len {
+        line.push_all(&[*rng.pick(&EMAILS)]);
+    }
+    line.push_all(&[CLOSE, CLOSE]);
 }
 
 /// A line over all kinds, each with any of a list of texts.

@@ -6,6 +6,7 @@
 extern crate self as ast;
 
 mod anchor;
+mod anchor_cases;
 mod cases;
 mod check;
 mod differences;
@@ -39,9 +40,9 @@ use std::sync::atomic::{AtomicUsize, Ordering};
 use std::time::{Duration, Instant, SystemTime};
 
 use cases::Piece;
-use check::{Due, MOVED, Tally, VIEWED, Worker};
+use check::{ANCHORED, Due, MOVED, Tally, VIEWED, Worker};
 use library::{Library, Reader};
-use numbers::{AnchorEntry, MARKED, MODES, Mode};
+use numbers::{ANCHOR_ENTRIES, AnchorEntry, MARKED, MODES, Mode};
 use words::Asked;
 
 const SEED: u64 = 0x7e1f_1057;
@@ -137,6 +138,13 @@ fn report(tally: &Tally, seconds: f64) {
             VIEWED.iter().zip(tally.viewed).map(|(due, n)| format!("{due} {}", grouped(n))).collect();
         println!("calls of the viewer by what is due of it: {}", due.join("; "));
     }
+    for (entry, counts) in ANCHOR_ENTRIES.iter().zip(&tally.anchors) {
+        if counts.iter().any(|n| *n > 0) {
+            let due: Vec<String> =
+                ANCHORED.iter().zip(counts).map(|(due, n)| format!("{due} {}", grouped(*n))).collect();
+            println!("anchors, {entry:?}, by what is due: {}", due.join("; "));
+        }
+    }
     let counted = [
         ("lines in which commas were taken back, and more stand inside pairs of quotes", tally.crossing),
         ("is_block_attr_list said yes", tally.yes),
@@ -157,14 +165,16 @@ fn telling(library: &Library, tally: &Tally) -> bool {
     let mut missing = Vec::new();
     let lists_of = |reader| rust_side::ENTRIES.iter().any(|e| library.has_list(reader, *e));
     let lists = lists_of(Reader::Main);
+    let anchors = ANCHOR_ENTRIES.iter().any(|entry| library.has_anchor(*entry));
     let of_sets = |mode| library.has_from_meta(mode) || library.has_moves(mode);
     let due = |n: usize| match n {
         0 => true,
-        1..=6 => lists || library.has_is_block_attr_list(),
+        1..=6 => lists || anchors || library.has_is_block_attr_list(),
         7 | 8 => lists,
         9 => MODES.iter().any(|mode| library.has_from_meta(*mode)),
         10 => MODES.iter().any(|mode| of_sets(*mode)),
-        _ => of_sets(Mode::Sheet),
+        11 => of_sets(Mode::Sheet),
+        _ => anchors,
     };
     for (number, count) in tally.refusals.iter().enumerate() {
         if due(number) && *count < 10 {
@@ -187,6 +197,11 @@ fn telling(library: &Library, tally: &Tally) -> bool {
             let few = (0..3).filter(|mark| counts[*mark] < 1000);
             missing.extend(few.map(|mark| format!("tag {tag} with the mark {mark}")));
         }
+    }
+    for (entry, counts) in ANCHOR_ENTRIES.iter().zip(tally.anchors) {
+        let few =
+            ANCHORED.iter().zip(counts).filter(|(_, count)| library.has_anchor(*entry) && *count < 1000);
+        missing.extend(few.map(|(due, _)| format!("anchors, {entry:?}: {due}")));
     }
     let moved = MODES.iter().all(|mode| library.has_moves(*mode));
     missing.extend(

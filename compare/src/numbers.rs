@@ -90,6 +90,8 @@ pub enum AnchorEntry {
     Inline,
 }
 
+pub const ANCHOR_ENTRIES: [AnchorEntry; 2] = [AnchorEntry::Block, AnchorEntry::Inline];
+
 /// A line whose texts the Rust can hold: every lexeme is UTF-8.
 #[derive(Clone, Copy, PartialEq, Eq)]
 pub struct Lent<'t> {

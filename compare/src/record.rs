@@ -4,12 +4,12 @@
 
 use std::fmt::Write as _;
 
-use crate::check::{Worker, expected_set};
+use crate::check::{Worker, expected_anchor, expected_set};
 use crate::library::{Library, List};
-use crate::lines::{LineBuf, any_kinds_line, random_line, spoil_utf8};
+use crate::lines::{A, COMMA, LineBuf, Tok, anchor_line, any_kinds_line, random_line, spoil_utf8};
 use crate::model::{self, MOST_BYTES, MOST_TOKENS};
 use crate::rng::Rng;
-use crate::rust_side::{self, ENTRIES, Entry, Lent, Mode, NORMAL, ROW, Set};
+use crate::rust_side::{self, ANCHOR_ENTRIES, AnchorEntry, ENTRIES, Entry, Lent, Mode, NORMAL, ROW, Set};
 use crate::token::TokenKind;
 
 pub const STDIN: &str = "../crates/replay/stdin";
@@ -66,6 +66,18 @@ impl Recorded {
         let refusal = model::line_refusal(line.kinds, line.text, line.pairs, MOST_TOKENS);
         let yes = refusal == 0 && rust_side::is_block_attr_list(line);
         let _ = writeln!(self.answers, "{refusal} {}", u8::from(yes));
+    }
+
+    fn anchor(&mut self, name: &str, entry: AnchorEntry, line: Lent<'_>, rust_text: &[u8]) {
+        self.line(entry_number(name), line);
+        self.calls.push('\n');
+        let answer = expected_anchor(entry, line, rust_text).unwrap_or_else(|words| panic!("{words}"));
+        let [refusal, rest @ ..] = answer.numbers();
+        let _ = write!(self.answers, "{refusal}");
+        for number in rest {
+            let _ = write!(self.answers, " {number}");
+        }
+        self.answers.push('\n');
     }
 
     fn subs(&mut self, mode: Mode, set: Set, text: Option<&[u8]>) {
@@ -172,13 +184,74 @@ const LINES: [&str; 82] = [
     "',\",\",',\",',\",,']",
 ];
 
+/// Lines of anchors that document 02 speaks of, and others beside them.
+const ANCHORS: [&str; 52] = [
+    "a]]",
+    "a]",
+    "a]b c",
+    "a]]b",
+    "a]⟨Word b⟩⟨Word b⟩",
+    "a b.c]]",
+    "a\\]]",
+    "a",
+    "a b",
+    "{x}]]",
+    "{x}a{x}]]",
+    "a{x},{x}b{x}]]",
+    "⟨Word ⟩]]",
+    "⟨AttrRef ⟩]]",
+    "⟨Word ⟩{x}]]",
+    "⟨Word ⟩,b]]",
+    "a,b]]",
+    "a, b]]",
+    "a, ]]",
+    "a,]]",
+    "a,⟨Word ⟩]]",
+    "a,⟨Whitespace ⟩]]",
+    "a,⟨Whitespace  ⟩⟨Whitespace  ⟩b]]",
+    "a,⟨Discard  ⟩b]]",
+    "a,⟨Discard ⟩]]",
+    "a,b⟨Discard  ⟩]]",
+    "a,{x} b]]",
+    "a, {x}]]",
+    "a,b,c]]",
+    "a,b]",
+    "a,b",
+    "a,]",
+    "a,",
+    "a,b]c",
+    "a,b]]c",
+    "a,b]]]",
+    "a,]]]",
+    "a,b]c]]",
+    "a,b\\]]",
+    "a,b\\]c]]",
+    "a,b ⟨Word u⟩.⟨Word v⟩⟨MaybeEmail @ex.com⟩ c]]",
+    "a, ⟨Word u⟩⟨MaybeEmail @ex.com⟩]]",
+    "a,⟨MaybeEmail u@ex.com⟩]]",
+    "#]]",
+    "...,b]]",
+    "[a]]",
+    "9]]",
+    "\"a]]",
+    "'a,b]]",
+    " a]]",
+    "]]",
+    ",",
+];
+
+/// A line with the text that the Rust is given, of the same lengths.
+type ForBoth = (LineBuf, Vec<u8>);
+
+fn for_both(line: LineBuf) -> ForBoth {
+    let text = line.text.clone();
+    (line, text)
+}
+
 /// The lines that are recorded: those of the documents, random ones, damaged ones, long ones.
-fn lines(rng: &mut Rng, how_many: usize, bracketed: bool) -> Vec<(LineBuf, Vec<u8>)> {
-    let mut lines: Vec<(LineBuf, Vec<u8>)> = Vec::new();
-    let mut add = |line: LineBuf| {
-        let text = line.text.clone();
-        lines.push((line, text));
-    };
+fn lines(rng: &mut Rng, how_many: usize, bracketed: bool) -> Vec<ForBoth> {
+    let mut lines: Vec<ForBoth> = Vec::new();
+    let mut add = |line: LineBuf| lines.push(for_both(line));
     for text in LINES {
         let open = if bracketed { "[" } else { "" };
         add(LineBuf::lex(&format!("{open}{text}")));
@@ -196,10 +269,25 @@ fn lines(rng: &mut Rng, how_many: usize, bracketed: bool) -> Vec<(LineBuf, Vec<u
         }
         add(line.clone());
     }
-    // Refused, each number, alone and with a later one.
-    let good = || LineBuf::lex("[a,b]");
-    for fault in 0..14 {
-        let mut line = good();
+    refused_lines().for_each(&mut add);
+    let first = if bracketed { TokenKind::OpenBracket } else { TokenKind::Word };
+    long_lines(&[(first, "")]).into_iter().for_each(&mut add);
+    // Lexemes that are no UTF-8.
+    if !bracketed {
+        for _ in 0..how_many / 20 {
+            let len = 1 + rng.below(9);
+            random_line(&mut line, rng, len);
+            let for_rust = spoil_utf8(&mut line, rng);
+            lines.push((line.clone(), for_rust));
+        }
+    }
+    lines
+}
+
+/// Refused, each number, alone and with a later one.
+fn refused_lines() -> impl Iterator<Item = LineBuf> {
+    (0..14).map(|fault| {
+        let mut line = LineBuf::lex("[a,b]");
         match fault {
             0 => line.clear(),
             1 => line.kinds.clear(),
@@ -222,27 +310,35 @@ fn lines(rng: &mut Rng, how_many: usize, bracketed: bool) -> Vec<(LineBuf, Vec<u
                 line.pairs.pop();
             }
         }
-        add(line);
-    }
-    // 4,096 tokens and one more: zero-length brackets behind a Word.
-    for tokens in [MOST_TOKENS, MOST_TOKENS + 1] {
-        let mut line = LineBuf::default();
-        let first = if bracketed { TokenKind::OpenBracket } else { TokenKind::Word };
-        line.push(first, b"");
+        line
+    })
+}
+
+/// 4,096 tokens and one more: zero-length brackets behind the first.
+fn long_lines(first: &[Tok]) -> [LineBuf; 2] {
+    [MOST_TOKENS, MOST_TOKENS + 1].map(|tokens| {
+        let mut line = LineBuf::of(first);
         while line.kinds.len() < tokens {
             line.push(TokenKind::CloseBracket, b"");
         }
-        add(line);
+        line
+    })
+}
+
+/// The lines of anchors that are recorded, likewise.
+fn anchor_lines(rng: &mut Rng, how_many: usize) -> Vec<ForBoth> {
+    let mut lines: Vec<ForBoth> = ANCHORS.iter().map(|text| for_both(LineBuf::lex(text))).collect();
+    let mut line = LineBuf::default();
+    for turn in 0..how_many {
+        let len = 1 + rng.below(11);
+        anchor_line(&mut line, rng, len);
+        let for_rust = if turn % 4 == 0 { spoil_utf8(&mut line, rng) } else { line.text.clone() };
+        lines.push((line.clone(), for_rust));
     }
-    // Lexemes that are no UTF-8.
-    if !bracketed {
-        for _ in 0..how_many / 20 {
-            let len = 1 + rng.below(9);
-            random_line(&mut line, rng, len);
-            let for_rust = spoil_utf8(&mut line, rng);
-            lines.push((line.clone(), for_rust));
-        }
-    }
+    lines.extend(refused_lines().map(for_both));
+    let [longest, _] = long_lines(&[A, COMMA]);
+    let [_, too_long] = long_lines(&[(TokenKind::Word, "")]);
+    lines.extend([longest, too_long].map(for_both));
     lines
 }
 
@@ -334,6 +430,15 @@ pub fn recorded(listed: &[&str]) -> Recorded {
                 _ => ROW * tokens,
             };
             out.list(entry, line.lent(), &for_rust, numbers);
+        }
+    }
+    let mut rng = Rng::new(0xa2c);
+    for (entry, name) in ANCHOR_ENTRIES.into_iter().zip(["telfjost_block_anchor", "telfjost_inline_anchor"]) {
+        if !listed.contains(&name) {
+            continue;
+        }
+        for (line, for_rust) in anchor_lines(&mut rng, 60) {
+            out.anchor(name, entry, line.lent(), &for_rust);
         }
     }
     out

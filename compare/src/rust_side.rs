@@ -169,11 +169,9 @@ pub fn watch_panics() {
     let usual = std::panic::take_hook();
     std::panic::set_hook(Box::new(move |info| {
         let Some(due) = DUE.get() else { return usual(info) };
-        let at = info.location().map_or("an unknown place".into(), |l| {
-            let file = l.file().rsplit('/').next().unwrap_or("");
-            format!("{file}:{}", l.line())
-        });
-        let panic = format!("{at}, where {due} is due");
+        let (file, line) = info.location().map_or(("an unknown place", 0), |l| (l.file(), l.line()));
+        let file = file.rsplit('/').next().unwrap_or("");
+        let panic = format!("{file}:{line}, where {due} is due");
         PANICS.with_borrow_mut(|panics| *panics.entry(panic).or_insert(0) += 1);
     }));
 }

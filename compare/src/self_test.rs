@@ -1,19 +1,21 @@
 //! The Rust side and the harness's own reading, without the library: the lines on the bench of
-//! document 01, the quote marks and the commas taken back of document 02, whitespace-only runs against
-//! the real `Deq`, the number of held sets, and the harness's own table of refusals. It runs before
+//! document 01, the quote marks, the commas taken back and the anchors of document 02, whitespace-only
+//! runs against the real `Deq`, the number of held sets, and the harness's own table of refusals. It runs before
 //! every comparison.
 
-use crate::check::{Due, expected_move, expected_set};
+use crate::check::{Due, anchored, expected_anchor, expected_move, expected_set};
 use crate::deq::Deq;
-use crate::library::Library;
-use crate::lines::{LineBuf, SIGNIFICANT};
+use crate::library::{Anchor, Library};
+use crate::line::Line;
+use crate::lines::{A, CLOSE, COMMA, DOT, LineBuf, SIGNIFICANT, SPACE, Tok};
 use crate::model::{self, MOST_TOKENS, VIEWER_TOKENS, line_refusal, room_refusal};
 use crate::parser::SourceLocation;
 use crate::reading::commas_inside;
 use crate::record;
 use crate::room;
 use crate::rust_side::{
-    self, ENTRIES, Entry, KINDS, MARKED, MODES, MOVES, Mode, Move, NO_SUBS, NORMAL, Outcome, Row, STARTS, Set,
+    self, ANCHOR_ENTRIES, AnchorEntry, ENTRIES, Entry, KINDS, MARKED, MODES, MOVES, Mode, Move, NO_SUBS,
+    NORMAL, Outcome, Row, STARTS, Set,
 };
 use crate::stand_in::{Bump, BumpString};
 use crate::token::{Token, TokenIs, TokenKind};
@@ -56,6 +58,17 @@ impl Tests {
         self.same(&format!("commas taken back by {entry:?}, {line}"), given, Ok(Some(commas)));
     }
 
+    /// The line of an anchor, on whose eight numbers the Rust and the harness's own reading agree.
+    fn anchor(&mut self, entry: AnchorEntry, line: &LineBuf, due: [usize; 8]) {
+        let given = expected_anchor(entry, line.lent(), &line.text).map(|anchor| anchor.numbers());
+        let text = String::from_utf8_lossy(&line.text);
+        self.same(&format!("{entry:?} anchor {text}"), given, Ok(due));
+    }
+
+    fn anchors(&mut self, line: &str, due: [usize; 8]) {
+        ANCHOR_ENTRIES.into_iter().for_each(|entry| self.anchor(entry, &LineBuf::lex(line), due));
+    }
+
     fn refused(&mut self, what: &str, entry: Entry, line: &str, due: Outcome) {
         self.same(what, read(entry, &LineBuf::lex(line)), Ok((due, vec![])));
     }
@@ -79,9 +92,13 @@ pub fn run() -> bool {
     more_lines(&mut t);
     quote_marks(&mut t);
     commas_taken_back(&mut t);
+    anchors(&mut t);
+    anchors_of_other_tokens(&mut t);
+    email_addresses(&mut t);
     sets(&mut t);
     refusals(&mut t);
     short_lines(&mut t);
+    short_anchors(&mut t);
     recorded_answers(&mut t);
     println!("self-test, without the library: {} checks, {} failed", t.run, t.failed);
     t.failed == 0
@@ -243,6 +260,106 @@ fn commas_taken_back(t: &mut Tests) {
     }
     let inside = |line: &str| commas_inside(LineBuf::lex(line).lent());
     t.same("commas inside a pair", [inside("\",'\",']"), inside("\",\",'a,']"), inside("\",a]")], [2, 2, 0]);
+}
+
+const NO_ANCHOR: [usize; 8] = [0; 8];
+const OUT: [usize; 8] = [12, 0, 0, 0, 0, 0, 0, 0];
+
+/// Document 02, Slip 1.
+fn anchors(t: &mut Tests) {
+    let (block, inline) = (AnchorEntry::Block, AnchorEntry::Inline);
+    for line in ["9]]", "\"a]]", "'a]]", " a]]", "]]", ",a]]", ",", "]", "9", " "] {
+        t.anchors(line, NO_ANCHOR);
+    }
+    // an id alone: up to two tokens are dropped
+    t.anchors("a]]", [0, 1, 0, 1, 0, 0, 3, 0]);
+    t.anchors("a]", [0, 1, 0, 1, 0, 0, 2, 0]);
+    t.anchors("a]b c", [0, 1, 0, 1, 0, 0, 3, 0]);
+    t.anchors("a]⟨Word b⟩⟨Word b⟩", [0, 1, 0, 1, 0, 0, 3, 0]);
+    t.anchors("a.b c]]", [0, 1, 0, 5, 0, 0, 7, 0]);
+    t.anchors("a\\]]", [0, 1, 0, 2, 0, 0, 4, 0]);
+    t.anchors("#]]", [0, 1, 0, 1, 0, 0, 3, 0]);
+    t.anchors("...]]", [0, 1, 0, 1, 0, 0, 3, 0]);
+    // and a reference text
+    t.anchors("a,b]]", [0, 1, 0, 1, 2, 1, 5, 0]);
+    t.anchors("a, b]]", [0, 1, 0, 1, 2, 2, 6, 1]);
+    t.anchors("a, ]]", [0, 1, 0, 1, 2, 1, 5, 1]);
+    t.anchors("a,]]", [0, 1, 0, 1, 0, 0, 4, 0]);
+    t.anchors("a,b,c d]]", [0, 1, 0, 1, 2, 5, 9, 0]);
+    t.anchors("a,\"]]", [0, 1, 0, 1, 2, 1, 5, 0]);
+    t.anchors("a,b\\]]", [0, 1, 0, 1, 2, 2, 6, 0]);
+    t.anchor(inline, &LineBuf::lex("a,b]] c"), [0, 1, 0, 1, 2, 1, 5, 0]);
+    t.anchor(block, &LineBuf::lex("a,b]] c"), OUT);
+    t.anchor(block, &LineBuf::lex("a,b]c]]"), [0, 1, 0, 1, 2, 3, 7, 0]);
+    t.anchor(inline, &LineBuf::lex("a,b]c]]"), OUT);
+    t.anchor(block, &LineBuf::lex("a,b\\]c]]"), [0, 1, 0, 1, 2, 4, 8, 0]);
+    t.anchor(inline, &LineBuf::lex("a,b\\]c]]"), OUT);
+    t.anchor(block, &LineBuf::lex("a,]]]"), [0, 1, 0, 1, 2, 1, 5, 0]);
+    t.anchor(inline, &LineBuf::lex("a,]]]"), [0, 1, 0, 1, 0, 0, 4, 0]);
+    // it runs out, or does not close as said
+    for line in ["a", "a b", "a,", "a,b", "a,]", "a,b]", "a, ]", "a,b]c", "{x}"] {
+        t.anchors(line, OUT);
+    }
+}
+
+/// Tokens that a line of plain text does not show: AttrRef, those of no bytes, Discard and email
+/// addresses.
+fn anchors_of_other_tokens(t: &mut Tests) {
+    use TokenKind::{AttrRef, Comma, Discard, Whitespace, Word};
+    t.anchors("{x}]]", [0, 1, 0, 1, 0, 0, 3, 0]);
+    t.anchors("a{x}]]", [0, 1, 0, 2, 0, 0, 4, 0]);
+    t.anchors("{x}a,{x}b{x}]]", [0, 1, 0, 2, 3, 3, 8, 0]);
+    t.anchors("a,{x} b]]", [0, 1, 0, 1, 2, 3, 7, 0]);
+    t.anchors("a, {x}]]", [0, 1, 0, 1, 2, 2, 6, 1]);
+    t.anchors("a,⟨Discard  ⟩b]]", [0, 1, 0, 1, 2, 2, 6, 1]);
+    t.anchors("a,⟨Whitespace  ⟩⟨Whitespace  ⟩]]", [0, 1, 0, 1, 2, 2, 6, 1]);
+    t.anchors("a,b⟨Discard  ⟩]]", [0, 1, 0, 1, 2, 2, 6, 0]);
+    // the Rust makes one token of the address: see `email_addresses`
+    t.anchors("a,b ⟨Word u⟩.⟨Word v⟩⟨MaybeEmail @ex.com⟩ c]]", [0, 1, 0, 1, 2, 8, 12, 0]);
+    t.anchors("a, ⟨Word u⟩⟨MaybeEmail @ex.com⟩]]", [0, 1, 0, 1, 2, 3, 7, 1]);
+    t.anchors("a,⟨Word u⟩_⟨MaybeEmail @ex.com⟩]]", [0, 1, 0, 1, 2, 3, 7, 0]);
+    t.anchors("a,⟨Word u⟩⟨MaybeEmail no⟩]]", [0, 1, 0, 1, 2, 2, 6, 0]);
+    let lines = [
+        (vec![(AttrRef, ""), CLOSE, CLOSE], OUT),
+        (vec![(Word, ""), CLOSE, CLOSE], OUT),
+        (vec![(Word, ""), (AttrRef, ""), COMMA, (Word, "b"), CLOSE, CLOSE], OUT),
+        (vec![(Word, ""), (AttrRef, "{x}"), CLOSE, CLOSE], [0, 1, 0, 2, 0, 0, 4, 0]),
+        (vec![(Word, "a"), (Comma, ""), (Word, ""), CLOSE, CLOSE], [0, 1, 0, 1, 2, 1, 5, 0]),
+        (vec![(Word, "a"), COMMA, (Whitespace, ""), CLOSE, CLOSE], [0, 1, 0, 1, 2, 1, 5, 1]),
+        (vec![(Word, "a"), COMMA, (Discard, ""), CLOSE, CLOSE], [0, 1, 0, 1, 2, 1, 5, 1]),
+        (vec![(Comma, ""), CLOSE], NO_ANCHOR),
+    ];
+    for (line, due) in lines {
+        ANCHOR_ENTRIES.into_iter().for_each(|entry| t.anchor(entry, &LineBuf::of(&line), due));
+    }
+    // the checks of a line come first
+    let bad_kind = LineBuf { kinds: vec![Comma as u8, 51], text: b",,".to_vec(), pairs: vec![0, 1, 1, 1] };
+    let bad_pair = LineBuf { pairs: vec![0, 1, 1, 2], ..LineBuf::lex(",,") };
+    for entry in ANCHOR_ENTRIES {
+        t.anchor(entry, &LineBuf::default(), [1, 0, 0, 0, 0, 0, 0, 0]);
+        t.anchor(entry, &bad_kind, [5, 0, 0, 0, 0, 0, 0, 0]);
+        t.anchor(entry, &bad_pair, [6, 0, 0, 0, 0, 0, 0, 0]);
+    }
+}
+
+/// How many tokens the Rust leaves of some that it pushes on a line.
+fn pushed(tokens: &[Tok]) -> usize {
+    let bump = Bump::default();
+    let mut line = Line::empty(&bump);
+    for (place, (kind, text)) in tokens.iter().enumerate() {
+        line.push(Token::new(*kind, SourceLocation::of_token(place), BumpString::lent(text, &bump)));
+    }
+    line.num_tokens()
+}
+
+/// `Line::push` makes one token of those of an email address, and leaves others.
+fn email_addresses(t: &mut Tests) {
+    use TokenKind::{MaybeEmail, Word};
+    let end = (MaybeEmail, "@ex.com");
+    t.same("tokens left of an address", pushed(&[SPACE, (Word, "u"), DOT, (Word, "v"), end]), 2);
+    t.same("tokens left of an address behind a Discard", pushed(&[(TokenKind::Discard, " "), A, end]), 2);
+    t.same("tokens left of what is no address", pushed(&[SPACE, A, (MaybeEmail, "no")]), 3);
+    t.same("tokens left of an address alone", pushed(&[A, SPACE, (MaybeEmail, "u@ex.com")]), 3);
 }
 
 /// Document 02, Slip 2: the sixth number of a row.
@@ -422,6 +539,21 @@ fn refusals(t: &mut Tests) {
     t.same("no tokens where none is read", of_words(0, 0), 1);
 }
 
+/// Every line of up to `longest` of the tokens.
+fn each_short_line(tokens: &[Tok], longest: u32, mut f: impl FnMut(&LineBuf)) {
+    for len in 1..=longest {
+        for number in 0..tokens.len().pow(len) {
+            let mut line = LineBuf::default();
+            let mut rest = number;
+            for _ in 0..len {
+                line.push_all(&tokens[rest % tokens.len()..=rest % tokens.len()]);
+                rest /= tokens.len();
+            }
+            f(&line);
+        }
+    }
+}
+
 /// Every line of up to three significant tokens: the harness's own reading gives what the Rust
 /// gives, this lies inside the line, and a panic arises only where a token or a closing bracket is
 /// missing.
@@ -430,46 +562,81 @@ fn short_lines(t: &mut Tests) {
     let mut inside = true;
     let mut unlike = 0u64;
     let mut outcomes = [0u64; 3];
-    for len in 1..=3u32 {
-        for number in 0..SIGNIFICANT.len().pow(len) {
-            let mut line = LineBuf::default();
-            let mut rest = number;
-            for _ in 0..len {
-                line.push_all(&SIGNIFICANT[rest % SIGNIFICANT.len()..=rest % SIGNIFICANT.len()]);
-                rest /= SIGNIFICANT.len();
-            }
-            for entry in ENTRIES {
-                match due.read(entry, line.lent(), &line.text) {
-                    Ok(Outcome::Read { consumed, .. }) => {
-                        outcomes[0] += 1;
-                        let within = |place: u32, count: u32| {
-                            (place, count) == (0, 0) || count > 0 && (place + count) < consumed as u32
-                        };
-                        inside &= consumed <= len as usize && due.rows().len() <= len as usize;
-                        inside &= due.rows().iter().all(|&[tag, place, count, value, length, mark]| {
-                            let unused = (value, length) == (0, 0);
-                            mark <= if MARKED.contains(&tag) { 2 } else { 0 }
-                                && match tag {
-                                    1 => (place, count) == (0, 0) && unused,
-                                    3 | 8 => count > 0 && within(place, count) && within(value, length),
-                                    7 => (1..=4).contains(&count) && (place as usize) < consumed && unused,
-                                    _ => within(place, count) && unused,
-                                }
-                        });
+    each_short_line(&SIGNIFICANT, 3, |line| {
+        let len = line.kinds.len();
+        for entry in ENTRIES {
+            match due.read(entry, line.lent(), &line.text) {
+                Ok(Outcome::Read { consumed, .. }) => {
+                    outcomes[0] += 1;
+                    let within = |place: u32, count: u32| {
+                        (place, count) == (0, 0) || count > 0 && (place + count) < consumed as u32
+                    };
+                    inside &= consumed <= len && due.rows().len() <= len;
+                    inside &= due.rows().iter().all(|&[tag, place, count, value, length, mark]| {
+                        let unused = (value, length) == (0, 0);
+                        mark <= if MARKED.contains(&tag) { 2 } else { 0 }
+                            && match tag {
+                                1 => (place, count) == (0, 0) && unused,
+                                3 | 8 => count > 0 && within(place, count) && within(value, length),
+                                7 => (1..=4).contains(&count) && (place as usize) < consumed && unused,
+                                _ => within(place, count) && unused,
+                            }
+                    });
+                }
+                Ok(Outcome::OtherClosing(_)) => outcomes[1] += 1,
+                Ok(Outcome::Panicked) => outcomes[2] += 1,
+                Err(words) => {
+                    if unlike == 0 {
+                        eprintln!("self-test: {words}");
                     }
-                    Ok(Outcome::OtherClosing(_)) => outcomes[1] += 1,
-                    Ok(Outcome::Panicked) => outcomes[2] += 1,
-                    Err(words) => {
-                        if unlike == 0 {
-                            eprintln!("self-test: {words}");
-                        }
-                        unlike += 1;
-                    }
+                    unlike += 1;
                 }
             }
         }
-    }
+    });
     t.same("short lines on which the Rust and the harness's own reading differ", unlike, 0);
     t.holds("rows of short lines lie inside them, with a mark where there can be one", inside);
     t.holds("short lines have every outcome", outcomes.iter().all(|n| *n > 1000));
+}
+
+/// Every line of an anchor of up to six of six tokens: the harness's own reading gives what the Rust gives,
+/// and its runs lie where the brackets and the Comma that close them say.
+fn short_anchors(t: &mut Tests) {
+    let mut beside = true;
+    let mut unlike = 0u64;
+    let mut outcomes = [0u64; 5];
+    let tokens = [A, (TokenKind::AttrRef, ""), SPACE, (TokenKind::Discard, ""), CLOSE, COMMA];
+    each_short_line(&tokens, 6, |line| {
+        for entry in ANCHOR_ENTRIES {
+            let found = match expected_anchor(entry, line.lent(), &line.text) {
+                Ok(found) => found,
+                Err(words) => {
+                    if unlike == 0 {
+                        eprintln!("self-test: {words}");
+                    }
+                    unlike += 1;
+                    continue;
+                }
+            };
+            outcomes[anchored(found)] += 1;
+            let [refusal, anchor, place, count, text, length, consumed, discard] = found.numbers();
+            let is = |place: usize, kind| line.kinds[place] == kind as u8;
+            beside &= if refusal != 0 || anchor == 0 {
+                found == Anchor { refusal, ..Anchor::default() }
+            } else if length == 0 {
+                (place, text, discard) == (0, 0, 0) && consumed <= line.kinds.len() && count < consumed
+            } else {
+                let closed =
+                    is(consumed - 1, TokenKind::CloseBracket) && is(consumed - 2, TokenKind::CloseBracket);
+                place == 0
+                    && is(count, TokenKind::Comma)
+                    && text == count + 1
+                    && text + length + 2 == consumed
+                    && closed
+            };
+        }
+    });
+    t.same("short lines of anchors on which the Rust and the harness's own reading differ", unlike, 0);
+    t.holds("the runs of a short anchor stand beside its Comma and its brackets", beside);
+    t.holds("short lines of anchors have every outcome", outcomes.iter().all(|n| *n > 50));
 }

@@ -2,12 +2,13 @@
 use attr_list::entries::Entry;
 use substitutions::Mode;
 
-// A reading of a list, whether a line is a block attribute list, or from_meta.
+// A reading of a list, whether a line is a block attribute list, the anchor of a line, or from_meta.
 #[derive(Clone, Copy, PartialEq, Eq)]
 pub(crate) enum Call {
     List(Entry),
     IsBlock,
     Customize(Mode),
+    Anchor { is_entire_line: bool },
 }
 
 // A number that names no call.
@@ -27,6 +28,12 @@ impl TryFrom<u64> for Call {
             5 => Ok(Call::IsBlock),
             6 => Ok(Call::Customize(Mode::Port)),
             7 => Ok(Call::Customize(Mode::Sheet)),
+            8 => Ok(Call::Anchor {
+                is_entire_line: true,
+            }),
+            9 => Ok(Call::Anchor {
+                is_entire_line: false,
+            }),
             _ => Err(NoCall),
         }
     }

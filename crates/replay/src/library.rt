@@ -1,5 +1,6 @@
 // The calls of the library: no other file of this program makes one.
 use crate::line::Line;
+use anchor::Anchor;
 use attr_list::Read;
 use attr_list::entries::Entry;
 use refusals::Refusal;
@@ -11,6 +12,10 @@ pub(crate) fn parse(entry: Entry, line: &Line, rows: &mut [u32]) -> Result<Read,
 
 pub(crate) fn is_block(line: &Line) -> Result<bool, Refusal> {
     attr_list::is_block_attr_list(&line.kinds, &line.text, &line.pairs)
+}
+
+pub(crate) fn anchor(line: &Line, is_entire_line: bool) -> Result<Option<Anchor>, Refusal> {
+    anchor::parse_anchor(&line.kinds, &line.text, &line.pairs, is_entire_line)
 }
 
 pub(crate) fn from_meta(

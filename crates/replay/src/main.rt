@@ -3,6 +3,7 @@
 // are made by `compare/record`, which says what each number means.
 #![tactic(auto)]
 
+mod anchors;
 mod call;
 mod input;
 mod library;
@@ -28,6 +29,9 @@ fn replay(rt: &(impl Print + AllocGlobal), recorded: &[u8]) -> io::Result<()> {
         match Call::try_from(number) {
             Ok(Call::List(entry)) => lists::replay_list(rt, &mut numbers, entry)?,
             Ok(Call::IsBlock) => lists::replay_is_block(rt, &mut numbers)?,
+            Ok(Call::Anchor { is_entire_line }) => {
+                anchors::replay_anchor(rt, &mut numbers, is_entire_line)?
+            }
             Ok(Call::Customize(mode)) => sets::replay_set(rt, &mut numbers, Some(mode))?,
             // It is passed over, with the numbers that a call of from_meta has.
             Err(_) => sets::replay_set(rt, &mut numbers, None)?,

@@ -40,12 +40,15 @@ use std::time::{Duration, Instant};
 use library::{Library, Reader};
 use lines::LineBuf;
 use page::Measured;
-use rust_side::{ENTRIES, Entry, Lent, Mode, NORMAL, ROW};
+use rust_side::{ANCHOR_ENTRIES, AnchorEntry, ENTRIES, Entry, Lent, Mode, NORMAL, ROW};
 use stand_in::Bump;
 
 /// 64 tokens fit the main reader's small array of commas, and 256 the viewer's; 65 and 257 do not.
 const LENGTHS: [usize; 10] = [3, 8, 20, 64, 65, 100, 256, 257, 1000, 4096];
 const OF_THE_VIEWER: [usize; 4] = [3, 64, 65, 256];
+
+/// An id alone, an id and a text of two words, and long texts.
+const OF_ANCHORS: [usize; 5] = [3, 7, 64, 1000, 4096];
 
 /// Attributes as report sheets have them, again and again.
 const MIX: [&str; 10] = [
@@ -93,6 +96,29 @@ fn repeated(text: &str, tokens: usize) -> LineBuf {
     closed(&LineBuf::lex(&text.repeat(tokens)), tokens)
 }
 
+/// An anchor's line: an id, behind a comma a text of words, as far as it has tokens for one, and two closing brackets.
+fn anchor(tokens: usize) -> LineBuf {
+    let text = if tokens > 3 { format!("glucose,{}", "fasting ".repeat(tokens)) } else { "glucose".into() };
+    closed(&closed(&LineBuf::lex(&text), tokens - 1), tokens)
+}
+
+/// How long the Rust takes for a line, so many times. The lines stand in the arena before the clock starts; an answer is left in it.
+fn of_the_rust<'b, T>(
+    bump: &'b mut Bump,
+    lent: Lent<'_>,
+    many: usize,
+    read: impl Fn(&mut line::Line<'b>, &'b Bump) -> T,
+) -> Duration {
+    bump.reset();
+    let bump: &Bump = bump;
+    let mut lines: Vec<_> = (0..many).map(|_| rust_side::line_of(lent, bump)).collect();
+    let start = Instant::now();
+    for line in &mut lines {
+        std::mem::forget(black_box(read(line, bump)));
+    }
+    start.elapsed()
+}
+
 /// Times two calls in turn, each in batches; the fastest batch of each counts, since all that
 /// another program on the machine can do is slow a batch down.
 fn in_turn(
@@ -136,17 +162,7 @@ impl Bench {
             start.elapsed()
         };
         let bump = &mut self.bump;
-        let theirs = || {
-            bump.reset();
-            let bump: &Bump = bump;
-            // the lines stand in the arena before the clock starts; an answer is left in it
-            let mut lines: Vec<_> = (0..many).map(|_| rust_side::line_of(line.lent(), bump)).collect();
-            let start = Instant::now();
-            for line in &mut lines {
-                std::mem::forget(black_box(rust_side::read(entry, line, bump)));
-            }
-            start.elapsed()
-        };
+        let theirs = || of_the_rust(bump, line.lent(), many, |line, bump| rust_side::read(entry, line, bump));
         let (ours, theirs) = in_turn(ours, theirs, self.budget);
         Some(Measured {
             what: name,
@@ -170,6 +186,51 @@ impl Bench {
                 "bench: {reader:?}, {entry:?}, {} tokens: the reader gives {given:?} ({noted} diagnostics), the Rust {} and {consumed} consumed",
                 lent.kinds.len(),
                 list.rows()
+            );
+            std::process::exit(1);
+        }
+    }
+
+    /// The anchor of one line by one entry; None if it is not exported.
+    fn anchor(&mut self, entry: AnchorEntry, line: &LineBuf) -> Option<Measured> {
+        if !self.library.has_anchor(entry) {
+            return None;
+        }
+        let tokens = line.kinds.len();
+        let mut lent = line.clone();
+        self.same_anchor(entry, &mut lent);
+        let many = (2048 / tokens).max(1);
+        let library = &self.library;
+        let ours = || {
+            let start = Instant::now();
+            for _ in 0..many {
+                black_box(library.anchor(entry, black_box(&mut lent), false));
+            }
+            start.elapsed()
+        };
+        let bump = &mut self.bump;
+        let theirs =
+            || of_the_rust(bump, line.lent(), many, |line, bump| rust_side::anchor(entry, line, bump));
+        let (ours, theirs) = in_turn(ours, theirs, self.budget);
+        let many = many as f64;
+        Some(Measured {
+            what: page::anchor_name(entry),
+            size: tokens,
+            ours: ours / many,
+            theirs: Some(theirs / many),
+        })
+    }
+
+    /// Both find an anchor, consume as much, and have a reference text or none.
+    fn same_anchor(&mut self, entry: AnchorEntry, lent: &mut LineBuf) {
+        let given = self.library.anchor(entry, lent, false).expect("the entry is exported");
+        let mut line = rust_side::line_of(lent.lent(), &self.bump);
+        let anchor = rust_side::anchor(entry, &mut line, &self.bump);
+        let consumed = lent.kinds.len() - line.num_tokens();
+        if (given.anchor, given.consumed, given.text_count != 0) != (1, consumed, anchor.reftext.is_some()) {
+            eprintln!(
+                "bench: an anchor of {} tokens, {entry:?}: the reader gives {given:?}",
+                lent.kinds.len()
             );
             std::process::exit(1);
         }
@@ -282,6 +343,12 @@ fn main() -> ExitCode {
         table.extend(of_viewer.iter().filter_map(|line| bench.list(Reader::Viewer, entry, name, line)));
     }
     tables.push((page::VIEWER, "token", table));
+    let anchors: Vec<LineBuf> = OF_ANCHORS.iter().map(|tokens| anchor(*tokens)).collect();
+    let mut table = Vec::new();
+    for entry in ANCHOR_ENTRIES {
+        table.extend(anchors.iter().filter_map(|line| bench.anchor(entry, line)));
+    }
+    tables.push(("anchors", "token", table));
     let bracketed: Vec<LineBuf> = mixes
         .iter()
         .map(|line| {

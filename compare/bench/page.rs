@@ -2,7 +2,7 @@
 
 use std::fmt::Write as _;
 
-use crate::rust_side::Entry;
+use crate::rust_side::{AnchorEntry, Entry};
 
 /// Nanoseconds a call.
 pub struct Measured {
@@ -35,6 +35,13 @@ pub fn entry_name(entry: Entry) -> &'static str {
         Entry::BlockMacro => "parse_block_macro_attr_list",
         Entry::Inline => "parse_inline_macro_attr_list",
         Entry::Link => "parse_link_macro_attr_list",
+    }
+}
+
+pub fn anchor_name(entry: AnchorEntry) -> &'static str {
+    match entry {
+        AnchorEntry::Block => "parse_block_anchor",
+        AnchorEntry::Inline => "parse_inline_anchor",
     }
 }
 
@@ -194,10 +201,10 @@ Written by `./bench`; measured on {}, {} ({rustc}). The library is that of {kit}
 The reader (`libtelfjost.a`, called through its C functions) and the Rust of asciidork-parser
 0.38.2 (release build: -O, no debug assertions, no overflow checks), on the same lines, in the same
 process, in turn. The Rust runs on its real arena, {arena}, with recorders off: what it would do
-with an attribute's tokens beyond reading the list (inline parsing, messages, the map of named
-attributes) is left out of its time. So are making its line of tokens, dropping its answer, and the
+with the tokens of an attribute or of an anchor's reference text beyond reading the line (inline parsing,
+messages, the map of named attributes) is left out of its time. So are making its line of tokens, dropping its answer, and the
 arena's own growing, since the arena is warm. The reader is given nothing: its time has the checks
-of the line (refusals 1 to 8) and the writing of the rows. No buffer is cleared between calls.
+of the line (refusals 1 to 8, of an anchor 1 to 6 and 12) and the writing of the rows. No buffer is cleared between calls.
 
 A time is that of the fastest of many batches of calls, on both sides. Ratio: the Rust's time
 divided by the reader's.

@@ -3,7 +3,9 @@
 use crate::customize_subs;
 use crate::deq::Deq;
 use crate::line::Line;
+use crate::parse_attr_list::AnchorSrc;
 use crate::parser::{Parser, SourceLocation};
+use crate::sources::parse_inline_anchor;
 use crate::stand_in::{AttrList, Bump, BumpString, MultiAttrList};
 use crate::token::Token;
 
@@ -34,6 +36,18 @@ pub fn read<'b>(entry: Entry, line: &mut Line<'b>, bump: &'b Bump) -> AttrList<'
         Entry::Link => parser.parse_link_macro_attr_list(line),
     }
     .expect("no recorder gives an error")
+}
+
+/// The anchor of a line. Every line of the benchmark that is lent to it has one.
+#[inline(never)]
+pub fn anchor<'b>(entry: AnchorEntry, line: &mut Line<'b>, bump: &'b Bump) -> AnchorSrc<'b> {
+    let mut parser = Parser::new(bump);
+    match entry {
+        AnchorEntry::Block => parser.parse_block_anchor(line),
+        AnchorEntry::Inline => parse_inline_anchor(&mut parser, line),
+    }
+    .expect("no recorder gives an error")
+    .expect("the line has an anchor")
 }
 
 #[inline(never)]

@@ -162,8 +162,8 @@ telfjost_list telfjost_viewer_link_macro_attr_list(const uint8_t *kinds, size_t 
 
 /* What an anchor, [[id,text]], was read as. */
 typedef struct {
-    size_t refusal;                /* 0, 1 to 6, or 12; then the others are 0 */
-    size_t anchor;                 /* 1 for an anchor; 0 for "no anchor", then all are 0 */
+    size_t refusal;                /* 0; or 1 to 6 or 12, and then all others are 0 */
+    size_t anchor;                 /* 1 for an anchor; 0 for none, and then all others are 0 */
     size_t id_place, id_count;     /* the id: a run, AttrRef tokens kept */
     size_t text_place, text_count; /* the reference text: a run, AttrRef tokens kept; 0, 0: absent */
     size_t consumed;               /* tokens consumed */
@@ -195,15 +195,18 @@ typedef struct {
  * text_place + discard on.
  */
 
-/* An anchor that is the whole line. Behind the Comma the last two tokens must be CloseBrackets; the
- * reference text is what stands before them, other CloseBrackets too. All of the line is consumed. */
+/* The anchor of a whole line, as it stands above a block. Behind a Comma the last two tokens must be
+ * CloseBrackets; the reference text is what stands before them, other CloseBrackets too, and all of the
+ * line is consumed. Without a Comma the line may go on behind the anchor: of the four tokens `a` `]`
+ * `b` `b` three are consumed. */
 telfjost_anchor telfjost_block_anchor(const uint8_t *kinds, size_t kinds_len,
                                       const uint8_t *text, size_t text_len,
                                       const uint32_t *pairs, size_t pairs_len);
 
 /* An anchor in a line that may go on behind it: see `consumed`. The reference text runs to the first
- * CloseBracket behind the Comma, which must be followed by another; a Backslash before either changes
- * nothing. */
+ * CloseBracket behind the Comma, which must be followed by another. A Backslash escapes no bracket:
+ * `a,b\]]` closes, with the Backslash in the text, and `a,b]\]]` is refused with 12, since a Backslash
+ * follows its first CloseBracket. */
 telfjost_anchor telfjost_inline_anchor(const uint8_t *kinds, size_t kinds_len,
                                        const uint8_t *text, size_t text_len,
                                        const uint32_t *pairs, size_t pairs_len);

@@ -47,8 +47,8 @@ impl<'l> Anchor<'l> {
         self.first_is_discard
     }
 
-    /// The reference text as it is to be shown: without its first token where that counts as Discard. One
-    /// of a single blank is there, and empty.
+    /// The reference text as it is to be shown: without its first token where that counts as Discard. Of
+    /// a reference text that is one blank it gives an empty text, and not None.
     pub fn shown_text(&self) -> Option<Text<'l>> {
         let run = self.reference_text?;
         let shown = if self.first_is_discard { behind_first(run) } else { run };
@@ -122,7 +122,8 @@ impl<'l> Lent<'l> {
 
     /// The line as an anchor that may end before the line does. It is read as by [`Lent::block_anchor`],
     /// but for what follows a Comma: there the reference text runs to the first CloseBracket, which must
-    /// be followed by another; a Backslash before it changes nothing.
+    /// be followed by another. A Backslash escapes no bracket: `a,b\]]` closes, with the Backslash in the
+    /// text, and `a,b]\]]` is refused with 12.
     ///
     /// ```
     /// use telfjost::{Kind, Line};

@@ -156,7 +156,8 @@ impl<'l> Lent<'l> {
 pub struct Run {
     /// The first token, counted from 0.
     pub place: usize,
-    /// First kept token to last, AttrRef tokens between them counted.
+    /// First kept token to last, AttrRef tokens between them counted; of an anchor's run, where they are
+    /// kept, first token to last.
     pub count: usize,
 }
 

@@ -80,6 +80,7 @@ fn a_reference_text() {
 fn the_two_differ_behind_the_comma() {
     let whole = [
         ("a,b]c]]", ("a", Some("b]c"), Some("b]c"), 7)),
+        ("a,b]\\]]", ("a", Some("b]\\"), Some("b]\\"), 7)),
         ("a,]b]]", ("a", Some("]b"), Some("]b"), 6)),
         ("a, ]b]]", ("a", Some(" ]b"), Some("]b"), 7)),
     ];

@@ -134,10 +134,34 @@ fn limits() -> Vec<Piece> {
         .collect()
 }
 
+/// Ids of as many bytes as a narrower count would take for few or none: of one token, and of tokens of
+/// one byte each.
+fn long_ids() -> Piece {
+    piece("anchors, ids of many bytes", |worker| {
+        let endings: [&[Tok]; 2] = [&[CLOSE, CLOSE], &[COMMA, A, CLOSE, CLOSE]];
+        for bytes in [255, 256, 257, 511, 512, 513, 1024, 4090, 32_767, 32_768, 65_280, 65_530] {
+            for ending in endings {
+                let mut ids = vec![LineBuf::default()];
+                ids[0].push(Word, &vec![b'a'; bytes]);
+                if bytes <= 4090 {
+                    ids.push(LineBuf::default());
+                    (0..bytes).for_each(|_| ids[1].push(Word, b"a"));
+                }
+                for mut line in ids {
+                    ending.iter().for_each(|(kind, lexeme)| line.push(*kind, lexeme.as_bytes()));
+                    worker.anchors(line.lent())?;
+                }
+            }
+        }
+        Ok(())
+    })
+}
+
 /// What the gate runs.
 pub fn gate(seed: u64) -> Vec<Piece> {
     let mut pieces = exhaustive(0);
     pieces.extend(random(seed, 20));
     pieces.extend(limits());
+    pieces.push(long_ids());
     pieces
 }

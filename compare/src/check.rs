@@ -177,6 +177,8 @@ pub struct Worker<'l> {
     due: Due,
     buffer: Vec<u32>,
     lent: LineBuf,
+    /// Whether the last anchor's call passed NULL for what has no elements; every second one does.
+    null: bool,
 }
 
 fn refused(refusal: usize) -> List {
@@ -197,6 +199,7 @@ impl<'l> Worker<'l> {
             due: Due::default(),
             buffer: Vec::new(),
             lent: LineBuf::default(),
+            null: false,
         }
     }
 
@@ -394,8 +397,8 @@ impl<'l> Worker<'l> {
         self.count(expected.refusal);
         self.tally.anchors[entry as usize][anchored(expected)] += 1;
         self.lent.set(line);
-        let null = line.kinds.len() % 2 == 0;
-        let given = self.library.anchor(entry, &mut self.lent, null);
+        self.null = !self.null;
+        let given = self.library.anchor(entry, &mut self.lent, self.null);
         let altered = self.lent.lent() != line;
         if given == Some(expected) && !altered {
             return Ok(());

@@ -268,7 +268,7 @@ impl Library {
         })
     }
 
-    /// The line is lent so that a call which alters it is seen.
+    /// The line is lent from memory that may be written to; the caller compares it afterwards.
     pub fn anchor(&self, entry: AnchorEntry, line: &mut LineBuf, null: bool) -> Option<Anchor> {
         let f = self.anchors[entry as usize]?;
         let LineBuf { kinds, text, pairs } = line;

@@ -185,7 +185,7 @@ const LINES: [&str; 82] = [
 ];
 
 /// Lines of anchors that document 02 speaks of, and others beside them.
-const ANCHORS: [&str; 52] = [
+const ANCHORS: [&str; 53] = [
     "a]]",
     "a]",
     "a]b c",
@@ -224,6 +224,7 @@ const ANCHORS: [&str; 52] = [
     "a,b]]]",
     "a,]]]",
     "a,b]c]]",
+    "a,b]\\]]",
     "a,b\\]]",
     "a,b\\]c]]",
     "a,b ⟨Word u⟩.⟨Word v⟩⟨MaybeEmail @ex.com⟩ c]]",

@@ -292,6 +292,8 @@ fn anchors(t: &mut Tests) {
     t.anchor(block, &LineBuf::lex("a,b]] c"), OUT);
     t.anchor(block, &LineBuf::lex("a,b]c]]"), [0, 1, 0, 1, 2, 3, 7, 0]);
     t.anchor(inline, &LineBuf::lex("a,b]c]]"), OUT);
+    t.anchor(block, &LineBuf::lex("a,b]\\]]"), [0, 1, 0, 1, 2, 3, 7, 0]);
+    t.anchor(inline, &LineBuf::lex("a,b]\\]]"), OUT);
     t.anchor(block, &LineBuf::lex("a,b\\]c]]"), [0, 1, 0, 1, 2, 4, 8, 0]);
     t.anchor(inline, &LineBuf::lex("a,b\\]c]]"), OUT);
     t.anchor(block, &LineBuf::lex("a,]]]"), [0, 1, 0, 1, 2, 1, 5, 0]);
@@ -600,7 +602,7 @@ fn short_lines(t: &mut Tests) {
 }
 
 /// Every line of an anchor of up to six of six tokens: the harness's own reading gives what the Rust gives,
-/// and its runs lie where the brackets and the Comma that close them say.
+/// and its runs end at the Comma and at the brackets.
 fn short_anchors(t: &mut Tests) {
     let mut beside = true;
     let mut unlike = 0u64;

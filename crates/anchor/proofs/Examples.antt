@@ -47,7 +47,7 @@ cases =
     ∷ record { kinds = word ∷ attr_ref ∷ close_bracket ∷ close_bracket ∷ []; lengths = ones; whole = alone 2 4; inline = alone 2 4 }
     ∷ record { kinds = attr_ref ∷ close_bracket ∷ close_bracket ∷ []; lengths = 0 ∷ 1 ∷ 1 ∷ []; whole = malformed; inline = malformed }
     ∷ record { kinds = attr_ref ∷ close_bracket ∷ close_bracket ∷ []; lengths = 3 ∷ 1 ∷ 1 ∷ []; whole = alone 1 3; inline = alone 1 3 }
-    -- a word of no bytes before one that has bytes
+    -- a word of no bytes before an AttrRef that has bytes
     ∷ record { kinds = word ∷ attr_ref ∷ close_bracket ∷ close_bracket ∷ []; lengths = 0 ∷ 3 ∷ 1 ∷ 1 ∷ []; whole = alone 2 4; inline = alone 2 4 }
     -- `a,b]]`; `a, b]]`: the Whitespace belongs to the text; of two the first counts
     ∷ record { kinds = word ∷ comma ∷ word ∷ close_bracket ∷ close_bracket ∷ []; lengths = ones; whole = both 1 1; inline = both 1 1 }
@@ -66,6 +66,8 @@ cases =
     ∷ record { kinds = word ∷ comma ∷ word ∷ close_bracket ∷ word ∷ close_bracket ∷ close_bracket ∷ []; lengths = ones; whole = both 1 3; inline = malformed }
     -- `a,b\]]`: "with no escape"
     ∷ record { kinds = word ∷ comma ∷ word ∷ backslash ∷ close_bracket ∷ close_bracket ∷ []; lengths = ones; whole = both 1 2; inline = both 1 2 }
+    -- `a,b]\]]`: the Backslash parts the two brackets
+    ∷ record { kinds = word ∷ comma ∷ word ∷ close_bracket ∷ backslash ∷ close_bracket ∷ close_bracket ∷ []; lengths = ones; whole = both 1 3; inline = malformed }
     -- `a,b]`, `a`, `a,`, `a,]`
     ∷ record { kinds = word ∷ comma ∷ word ∷ close_bracket ∷ []; lengths = ones; whole = malformed; inline = malformed }
     ∷ record { kinds = word ∷ []; lengths = ones; whole = malformed; inline = malformed }

@@ -1,5 +1,5 @@
 -- The eight numbers leave one answer: no two answers have the same.
-use Rattle.std.specs.Prelude.{Option, None, Some, Result, Ok, Err, ℕ, ◌<◌, Bool, true, false, cond, ◌≡◌, refl}
+use Rattle.std.specs.Prelude.{Option, None, Some, Result, Ok, Err, ℕ, Bool, true, false, cond, ◌≡◌, refl}
 use Rattle.std.proofs.Common.{arith, sym, ap, ◌∙◌}
 use Rattle.refusals.specs.declared.Refusal.{Refusal}
 use Rattle.refusals.specs.Numbered.{number_of}

@@ -1,5 +1,5 @@
 -- The first place that passes a test, and the first tokens' bytes, in words.
-use Rattle.std.specs.Prelude.{Option, None, Some, ℕ, zero, suc, ◌+◌, ◌<◌, Bool, true, false, cond, ◌≡◌, refl, List, ltb, length, get_or, position}
+use Rattle.std.specs.Prelude.{Option, None, Some, ℕ, zero, suc, ◌<◌, Bool, true, false, cond, ◌≡◌, refl, List, ltb, length, get_or, position}
 use Rattle.std.specs.List.{position_or_len}
 use Rattle.std.proofs.Common.{arith, sym, ap, ◌∙◌, ltb-false, true≢false}
 use Rattle.std.proofs.Math.Decide.{dec_lt}
@@ -8,6 +8,7 @@ use Rattle.std.proofs.lemmas.List.Sums.{fails_before_first}
 use Rattle.std.proofs.lemmas.List.Quantifiers.{position-Some}
 use Rattle.token.specs.Line.{Line, length_in}
 use Rattle.anchor.specs.Anchor.{bytes_of}
+use Rattle.anchor.specs.Anchored.{SomeBytes}
 
 module _ (p : ℕ → Bool) (xs : List ℕ) where
   pub none-passes : position p xs ≡ None → (q : ℕ) → q < length xs → p (get_or xs q 0) ≡ false
@@ -33,18 +34,12 @@ module _ (p : ℕ → Bool) (xs : List ℕ) where
           ap Some (same j w.1 w.2 (dec_lt j i) (dec_lt i j))
 
 module _ (l : Line) where
-  -- one of the first n tokens, and it has bytes
-  pub record SomeBytes (n : ℕ) : Type 0 where
-    pub place : ℕ
-    pub within : place < n
-    pub bytes : 0 < length_in l.pairs place
-
-  pub bytes-some : (n : ℕ) → (bytes_of l n ≡ 0 → ⊥) → SomeBytes n
+  pub bytes-some : (n : ℕ) → (bytes_of l n ≡ 0 → ⊥) → SomeBytes l n
   unfolding bytes_of
   bytes-some zero h = absurd (h refl)
   bytes-some (suc n) h = by (dec_lt 0 (length_in l.pairs n)) (bytes-some n)
     where
-      by : Dec (0 < length_in l.pairs n) → ((bytes_of l n ≡ 0 → ⊥) → SomeBytes n) → SomeBytes (suc n)
+      by : Dec (0 < length_in l.pairs n) → ((bytes_of l n ≡ 0 → ⊥) → SomeBytes l n) → SomeBytes l (suc n)
       by (yes g) rest = record { place = n; within = omega arith; bytes = g }
       by (no g) rest =
           let w = rest (λ z. h (omega (arith, z, g))) in

@@ -66,7 +66,8 @@ counts_as_discard rest (suc m) = eqb (leading_kind (kind_at rest 0)) discard
 abbrev pub id_alone : (kinds : List ℕ) → (n : ℕ) → Numbers
 id_alone kinds n = found (run 0 n) empty_run (min (n + 2) (length kinds)) false
 
--- the text is the first m tokens after the Comma; id, Comma, text and the two brackets are consumed; or the line "does not close as said"
+-- the text is the first m tokens after the Comma; id, Comma, text and the two brackets are consumed, of "a whole line .. all"; or the line "does not
+-- close as said"
 unfoldable pub with_text : (n : ℕ) → (rest : List ℕ) → Option ℕ → Numbers
 with_text n rest None = refused anchor_malformed
 with_text n rest (Some m) =

@@ -7,13 +7,18 @@ use Rattle.token.specs.declared.Run.{Run}
 use Rattle.anchor.specs.declared.Anchor as code
 
 pub record Numbers : Type 0 where
+  -- the number with which the line is refused, 0 where it is not; where it is, all others are 0
   pub refusal : ℕ
+  -- 1 where there is an anchor; where there is none, all others are 0
   pub anchor : ℕ
+  -- the run of the id, and that of the reference text, 0 and 0 where that is absent
   pub id_place : ℕ
   pub id_count : ℕ
   pub text_place : ℕ
   pub text_count : ℕ
+  -- how many tokens are consumed
   pub consumed : ℕ
+  -- 1 where the first token of the reference text counts as Discard
   pub discard : ℕ
 
 -- refused with a number; every other number is 0
@@ -44,7 +49,7 @@ numbers_of (Err r) = refused (number_of r)
 numbers_of (Ok None) = no_anchor
 numbers_of (Ok (Some a)) = found a.id a.reftext a.consumed a.discard
 
--- the numbers of what the code reads, where what is no anchor is refused
+-- the numbers of what is read behind the first token; None is 12
 abbrev pub numbers_or_12 : Option code.Anchor → Numbers
 numbers_or_12 None = refused anchor_malformed
 numbers_or_12 (Some a) = found a.id a.reftext a.consumed a.discard

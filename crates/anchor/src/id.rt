@@ -6,7 +6,7 @@ ghost use Rattle.anchor.specs.Anchor.{begins_none, id_count, no_bytes};
 use token::kind::TokenKind;
 use token::lent::Line;
 
-// Whether a line has no anchor whose first token is of kind k.
+// Whether a line whose first token is of kind k has no anchor.
 pub(crate) fn begins_none(k: u8) -> bool
     ensures { result ≡ begins_none k }
 {

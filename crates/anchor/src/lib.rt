@@ -1,5 +1,5 @@
 // Anchors, `[[id,text]]`, of a line that begins after the two brackets (document 02, slip 1). What is answered is defined in specs/Anchor.antt, its
-// numbers in specs/Numbers.antt. Nothing lent is altered.
+// numbers in specs/Numbers.antt. "The lent kinds are not altered": what is lent is shared, so no clause need say it.
 #![tactic(auto)]
 
 mod id;
@@ -51,8 +51,8 @@ pub fn parse_inline_anchor(
     parse_anchor(kinds, text, pairs, false)
 }
 
-// The anchor of a line, if there is one. Three slices and no `Line`, as the entries of `attr_list` take them: whether they are one is what is checked. Whether
-// the line is a whole one is a yes or no, as the Rust has it.
+// The anchor of a line, if there is one. Three slices and no `Line`, as the entries of `attr_list` take them, since the check that they make one is part of
+// the call. Whether the line is a whole one is a yes or no, as the Rust has it.
 #[tactic(auto, unfolding(crate::specs::Anchor::anchor, crate::specs::Anchor::unrefused))]
 pub fn parse_anchor(
     kinds: &[u8],
@@ -66,10 +66,9 @@ pub fn parse_anchor(
     if begins_none(line.kinds[0]) {
         return Ok(None);
     }
-    match read_anchor(line, is_entire_line) {
-        None => Err(Refusal::AnchorMalformed),
-        Some(anchor) => Ok(Some(anchor)),
-    }
+    read_anchor(line, is_entire_line)
+        .map(Some)
+        .ok_or(Refusal::AnchorMalformed)
 }
 
 // The anchor of a line whose first token may begin one. None is refused: the line runs out, does not close as it should, or its id has no bytes.

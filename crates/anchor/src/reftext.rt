@@ -26,9 +26,10 @@ fn text_end(rest: &[u8], is_entire_line: bool) -> Option<usize>
     ensures within { IfSome result (λ at. at ≤ length rest.now) }
 {
     if is_entire_line {
-        return rest.len().checked_sub(2);
+        rest.len().checked_sub(2)
+    } else {
+        first_bracket(rest)
     }
-    first_bracket(rest)
 }
 
 // Whether two brackets stand at a place.

@@ -88,7 +88,7 @@ fn tell_reading(
     }
 }
 
-// Prints an anchor: where its id and its reference text stand, both, and how many tokens are consumed.
+// Prints an anchor: a drawing of where its id and its reference text stand, the two in words, and how many tokens are consumed.
 fn tell_anchor(rt: &(impl Print + AllocGlobal), line: &Line, anchor: Anchor) -> io::Result<()> {
     let parts = parts_of_anchor(rt.alloc(), &line.tokens, anchor)?;
     draw(rt, line, &parts)?;

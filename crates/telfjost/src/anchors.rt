@@ -3,7 +3,7 @@ ghost use Rattle.std.specs.Prelude.{true, false};
 ghost use Rattle.token.specs.Lent.{line};
 ghost use Rattle.telfjost.specs.Outcome.{AnchorNumbers, AnchorOutcome};
 
-use anchor::{Anchor, parse_block_anchor, parse_inline_anchor};
+use anchor::Anchor;
 use refusals::Refusal;
 
 // A refusal, 0 for none; 1 for an anchor; the runs of its id and of its reference text; how many tokens are consumed; and 1 where the first token of
@@ -68,7 +68,7 @@ pub extern "C" fn telfjost_block_anchor<'a>(
 ) -> TelfjostAnchor
     ensures { AnchorOutcome true (line kinds.entry text.entry pairs.entry) result }
 {
-    TelfjostAnchor::from(parse_block_anchor(kinds, text, pairs))
+    TelfjostAnchor::from(anchor::parse_block_anchor(kinds, text, pairs))
 }
 
 // The anchor within a line.
@@ -80,5 +80,5 @@ pub extern "C" fn telfjost_inline_anchor<'a>(
 ) -> TelfjostAnchor
     ensures { AnchorOutcome false (line kinds.entry text.entry pairs.entry) result }
 {
-    TelfjostAnchor::from(parse_inline_anchor(kinds, text, pairs))
+    TelfjostAnchor::from(anchor::parse_inline_anchor(kinds, text, pairs))
 }

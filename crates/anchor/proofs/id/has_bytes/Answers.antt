@@ -1,5 +1,5 @@
 -- `has_bytes` asks of the pair of each of the first n tokens whether its length is not 0. Assumes nothing.
-use Rattle.std.proofs.Common.{rules, tests, arith, ap, ◌∙◌, ℕ, ◌/◌, take, length, List}
+use Rattle.std.proofs.Common.{rules, tests, arith, ap, ◌∙◌, take, length}
 use Rattle.std.proofs.lemmas.Iterator.{YieldsList-from_slice}
 use Rattle.std.proofs.lemmas.Iterator.Search.{any_from_yields_List}
 use Rattle.token.specs.Checked.{line_in}

@@ -1,4 +1,5 @@
--- The anchors that are read are those that the words name, and 12 is due exactly where there is none of them.
+-- The anchors that are read are those that the words name; there is none exactly where the first token says so, and 12 is due exactly where one of the three
+-- faults is so.
 use Rattle.std.specs.Prelude.{Option, None, Some, ℕ, zero, suc, ◌+◌, ◌-◌, ◌≤◌, ◌<◌, Bool, true, false, cond, ◌&&◌, ◌||◌, ◌≡◌, ◌⊎◌, refl, List, eqb, ltb, length, get_or, drop, min}
 use Rattle.std.specs.Option.{unwrap_or}
 use Rattle.std.proofs.Common.{arith, sym, ap, subst, ◌∙◌, inl, inr, true≢false, eq-eqb, ne_eqb, eqb-true, le-ltb, ltb-false, get_or-drop, length-drop}
@@ -51,13 +52,6 @@ module _ (l : Line) where
   id-bytes : (n : ℕ) → SomeBytes l n → no_bytes l n ≡ false
   id-bytes n w = ne_eqb (bytes_of l n) 0 (some-bytes l n w.place w.within w.bytes)
 
-  no-bytes : (n : ℕ) → (SomeBytes l n → ⊥) → no_bytes l n ≡ true
-  no-bytes n h = by (no_bytes l n) refl
-    where
-      by : (t : Bool) → no_bytes l n ≡ t → t ≡ true
-      by true e = refl
-      by false e = absurd (h (bytes-some l n (λ z. true≢false (sym (eq-eqb (bytes_of l n) 0 z) ∙ e))))
-
 -- ---- the two brackets that close behind a Comma at n
 
 module _ (kinds : List ℕ) (n : ℕ) where
@@ -109,7 +103,7 @@ module _ (kinds : List ℕ) (n : ℕ) where
           let k = brackets-are m b in
           record { after = omega arith; bracket = k.0; another = k.1; closing = omega (arith, long, is, rest-long) }
 
-  pub closes-found : (is_entire_line : Bool) (m : ℕ) → text_end is_entire_line rest ≡ Some m → two_brackets rest m ≡ true → Closes is_entire_line kinds n (n + 1 + m)
+  closes-found : (is_entire_line : Bool) (m : ℕ) → text_end is_entire_line rest ≡ Some m → two_brackets rest m ≡ true → Closes is_entire_line kinds n (n + 1 + m)
   closes-found true m = closes-whole m
   closes-found false m = closes-inline m
 
@@ -137,13 +131,13 @@ module _ (kinds : List ℕ) (n : ℕ) where
         let at : n + 1 + count ≡ p = omega (arith, w.after) in
         are-brackets count (ap (kind_at kinds) at ∙ w.bracket) (ap (λ (q : ℕ). kind_at kinds (q + 1)) at ∙ w.another)
 
-    pub end-found : (is_entire_line : Bool) → Closes is_entire_line kinds n p → p < length kinds → text_end is_entire_line rest ≡ Some count
+    end-found : (is_entire_line : Bool) → Closes is_entire_line kinds n p → p < length kinds → text_end is_entire_line rest ≡ Some count
     end-found true w lt = end-whole w
     end-found false w lt = end-inline w lt
 
 -- ---- an id and what follows it
 
--- the token at a place that is of a kind other than the one that stands for none is in the line
+-- a place at which a CloseBracket stands is in the line
 in-line : (kinds : List ℕ) (p : ℕ) → kind_at kinds p ≡ close_bracket → p < length kinds
 in-line kinds p e = by (dec_lt p (length kinds))
   where
@@ -171,7 +165,7 @@ module _ (is_entire_line : Bool) (l : Line) where
       rw (id-counted l w.n w.id.stands, id-bytes l w.n w.id.bytes, ne_eqb (kind_at l.kinds w.n) close_bracket no, end-found l.kinds w.n w.p is_entire_line c (in-line l.kinds w.p c.bracket), brackets-found l.kinds w.n w.p is_entire_line c, end)
       (sym w.numbers)
 
-  pub is-read : (a : Numbers) → Anchored is_entire_line l a → read ≡ a
+  is-read : (a : Numbers) → Anchored is_entire_line l a → read ≡ a
   is-read a (inl w) = alone-read a w
   is-read a (inr w) = text-read a w
 
@@ -240,7 +234,7 @@ module _ (is_entire_line : Bool) (l : Line) where
   fault-text (inr (inl v)) a w = v.none (subst (SomeBytes l) (id-same l w.n v.n w.id.stands v.stands) w.id.bytes)
   fault-text (inr (inr v)) a w = v.nowhere w.p (subst (λ (n : ℕ). Closes is_entire_line l.kinds n w.p) (id-same l w.n v.n w.id.stands v.id.stands) w.closes)
 
-  pub fault-none : Fault → (a : Numbers) → Anchored is_entire_line l a → ⊥
+  fault-none : Fault → (a : Numbers) → Anchored is_entire_line l a → ⊥
   fault-none f a (inl w) = fault-alone f a w
   fault-none f a (inr w) = fault-text f a w
 
@@ -372,8 +366,5 @@ module _ (is_entire_line : Bool) (l : Line) where
       }
 
   pub within : (a : Numbers) → Anchored is_entire_line l a → Within (length l.kinds) a
-  within a w = by w
-    where
-      by : Anchored is_entire_line l a → Within (length l.kinds) a
-      by (inl w) = subst (Within (length l.kinds)) (sym w.numbers) (alone-fits w.n w.id)
-      by (inr w) = subst (Within (length l.kinds)) (sym w.numbers) (text-fits w.n w.p w.id w.closes)
+  within a (inl w) = subst (Within (length l.kinds)) (sym w.numbers) (alone-fits w.n w.id)
+  within a (inr w) = subst (Within (length l.kinds)) (sym w.numbers) (text-fits w.n w.p w.id w.closes)

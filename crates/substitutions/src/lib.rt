@@ -11,7 +11,7 @@ ghost use Rattle.std.specs.Prelude.{◌≡◌};
 ghost use Rattle.refusals.specs.Numbered.{refusal_number};
 ghost use Rattle.substitutions.specs.Kinds.{Gives, number_of, kind_of, flagged};
 ghost use Rattle.substitutions.specs.Held.{held, sound};
-ghost use Rattle.substitutions.specs.Moves.{refusal_of, answer_of, insert_answer, remove_answer, prepend_answer, answered};
+ghost use Rattle.substitutions.specs.Moves.{refusal_of, refused_with, answer_of, insert_answer, remove_answer, prepend_answer, answered};
 ghost use Rattle.substitutions.specs.Loops.{unclaimed_flags, Leaves};
 
 use crate::rules::{at_most_one, take_flags};
@@ -108,6 +108,16 @@ fn unclaimed_flags(set: Substitutions) -> Option<u8>
     take_flags(set)
 }
 
+// The one place where a refusal is made: its number, and the set given.
+pub fn refused(number: usize, set: Substitutions) -> SetAnswer
+    ensures { result ≡ refused_with number set }
+{
+    SetAnswer {
+        refusal: number,
+        set,
+    }
+}
+
 impl Substitutions {
     // Whether the set has the flag of a kind.
     pub fn contains(self, sub: Subs) -> bool
@@ -180,10 +190,7 @@ impl Substitutions {
     {
         match outcome {
             Ok(set) => SetAnswer { refusal: 0, set },
-            Err(refusal) => SetAnswer {
-                refusal: usize::from(refusal),
-                set: self,
-            },
+            Err(refusal) => refused(usize::from(refusal), self),
         }
     }
 }

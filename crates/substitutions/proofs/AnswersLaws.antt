@@ -87,10 +87,11 @@ normal-set-left s e = rw e refl
 
 -- The same of a set that is compared with the normal set.
 pub normal-same : (s t : Substitutions) → t ≡ normal_set → pointwise eqb s.places t.places && eqb s.flags t.flags ≡ true → 0 ≡ unclaimed_flags s
-unfolding unclaimed_flags left empty flagged flags_of
+unfolding normal_places flags_of
 normal-same s t n e =
     let places = same_text s.places t.places (sym (and_left (pointwise eqb s.places t.places) (eqb s.flags t.flags) e)) in
-    rw (places, eqb-true s.flags t.flags (and_right (pointwise eqb s.places t.places) (eqb s.flags t.flags) e), n) refl
+    let flags = eqb-true s.flags t.flags (and_right (pointwise eqb s.places t.places) (eqb s.flags t.flags) e) in
+    normal-left s (rw (places, n) refl) (rw (flags, n) refl) (rw (places, n) refl)
 
 -- The flags that the code has at hand, by those that the definition leaves.
 pub few-left : (f n : ℕ) (b : Bool) → f ≡ n → b ≡ few f → few n ≡ b

@@ -72,7 +72,7 @@ fn name_run(tokens: Tokens<'_>) -> Run
 pub(crate) fn parse_key_value_attr(tokens: Tokens<'_>) -> AttrIr
     ensures { IrOf key_value_ir (line_in tokens.entry.line) tokens.entry.from.0 tokens.entry.to.0 result }
 {
-    let equals = tokens.places().find_kind(TokenKind::EqualSigns);
+    let equals = tokens.places().find_kind(TokenKind::EqualSigns as u8);
     let before = Tokens {
         line: tokens.line,
         from: tokens.from,

@@ -88,7 +88,7 @@ pub(crate) fn read_text(line: Line<'_>, end: TokenPlace, rows: &mut [u32]) -> Re
         from: TokenPlace(0),
         to: end,
     };
-    Row::unquoted(Tag::Positional, text.unquote()).put(rows, 0);
+    Row::unquoted(Tag::Positional as u32, text.unquote()).put(rows, 0);
     let consumed = end.0 + 1;
     Ok(Read {
         rows: 1,

@@ -15,6 +15,7 @@ use Rattle.token.specs.Quotes.{marked}
 use Rattle.runs.specs.Run.{is_comma, is_whitespace, run_of, in_run}
 use Rattle.row.specs.declared.Row.{Row}
 use Rattle.row.specs.declared.tag.Tag.TheVariants as tag
+use Rattle.row.specs.Tag.{tag_number}
 use Rattle.row.specs.Row.{marked_run, named, plain, ident, role, option, diagnostic}
 use Rattle.attr_ir.specs.declared.AttrIr.{AttrIr}
 use Rattle.attr_ir.specs.declared.AttrIr.TheVariants as ir
@@ -67,13 +68,13 @@ module _ (l : Line) (i : AttrIr) (u : Uncut l i) where
     one : (row : Row) (id : Bool) → WroteId before at (one_row id row) after r → Outcome (one_row id row) 1 before at r after
     one row id w = told before at (one_row id row) (one_row id row) after r refl 1 w (omega (arith, w.wrote.count))
 
-    pub put-positional : (t : Unquoted) (cut : Bool) → i ≡ ir.Positional t cut → (row : Row) → row ≡ marked_run tag.Positional t.run t.mark → WroteId before at (one_row has row) after r → Put l i has before at r after
+    pub put-positional : (t : Unquoted) (cut : Bool) → i ≡ ir.Positional t cut → (row : Row) → row ≡ marked_run (tag_number tag.Positional) t.run t.mark → WroteId before at (one_row has row) after r → Put l i has before at r after
     unfolding ir_read
     put-positional t true e row f w = absurd (u.whole t e)
     put-positional t false e row f w =
         let x : ir.Positional t false ≡ ir.Positional (marked (run_of (in_run l t.run)) t.mark) false = runs_as (ir.Positional t false) e in
         let same : t ≡ marked (run_of (in_run l t.run)) t.mark = cc in
-        put_as (ir.Positional t false) e (one_row has row) (λ again. ap (one_row has) (f ∙ ap (λ (y : Unquoted). marked_run tag.Positional y.run t.mark) same)) (one row has w)
+        put_as (ir.Positional t false) e (one_row has row) (λ again. ap (one_row has) (f ∙ ap (λ (y : Unquoted). marked_run (tag_number tag.Positional) y.run t.mark) same)) (one row has w)
 
     pub put-named : (n : Run) (v : Unquoted) → i ≡ ir.Named n v → WroteId before at (one_row has (named n v.run v.mark)) after r → Put l i has before at r after
     unfolding ir_read

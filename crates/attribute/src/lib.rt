@@ -71,7 +71,7 @@ fn cut_positional(tokens: Tokens<'_>, block: bool, rows: &mut [u32], written: Wr
 {
     let symbol = find_symbol(tokens.places());
     if symbol.0 <= tokens.from.0 {
-        return written.put_diagnostic(rows, symbol, Diagnostic::InvalidAttrList);
+        return written.put_diagnostic(rows, symbol, Diagnostic::InvalidAttrList as usize);
     }
     let before = Places {
         kinds: tokens.line.kinds,

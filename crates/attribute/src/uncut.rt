@@ -20,17 +20,17 @@ pub(crate) fn put_ir(line: Line<'_>, ir: AttrIr, rows: &mut [u32], written: Writ
 {
     match ir {
         AttrIr::Positional { text, cut: _ } => {
-            written.put_one(rows, Row::unquoted(Tag::Positional, text))
+            written.put_one(rows, Row::unquoted(Tag::Positional as u32, text))
         }
-        AttrIr::Named { name, value } => written.put_named(rows, Tag::Named, name, value),
-        AttrIr::Plain { name, value } => written.put_named(rows, Tag::Plain, name, value),
+        AttrIr::Named { name, value } => written.put_named(rows, Tag::Named as u32, name, value),
+        AttrIr::Plain { name, value } => written.put_named(rows, Tag::Plain as u32, name, value),
         AttrIr::Options(run) => {
             let places = in_run(line, run).places();
-            written.put_groups(rows, places, TokenKind::Comma, Tag::Option)
+            written.put_groups(rows, places, TokenKind::Comma as u8, Tag::Option as u32)
         }
         AttrIr::Roles(run) => {
             let places = in_run(line, run).places();
-            written.put_groups(rows, places, TokenKind::Whitespace, Tag::Role)
+            written.put_groups(rows, places, TokenKind::Whitespace as u8, Tag::Role as u32)
         }
         AttrIr::Id(text) => written.put_id(rows, text),
         AttrIr::Shorthand(run) => written.push_shorthand(rows, in_run(line, run)),

@@ -15,6 +15,7 @@ use Rattle.runs.specs.Run.{kept, run_of, last_of, trim, trim_start, trim_end, le
 use Rattle.runs.proofs.KeptLaws.{kept-none, kept-one}
 use Rattle.row.specs.declared.Row.{Row}
 use Rattle.row.specs.declared.tag.Tag.TheVariants as tag
+use Rattle.row.specs.Tag.{tag_number}
 use Rattle.row.specs.Row.{width, one_run, empty_positional, positional, Wrote}
 use Rattle.delimiters.specs.Delimit.{parted}
 use Rattle.put_rows.specs.declared.Written.{Written}
@@ -41,7 +42,7 @@ none_read : (block has : Bool) → attribute block has [] ≡ one_row has empty_
 unfolding reading trim trim_start trim_end
 none_read block has = again block has []
 
-pub none_row : (block has : Bool) (l : Line) (from to : ℕ) → from ≡ to → (row : Row) → row ≡ one_run tag.EmptyPositional empty_run → one_row has row ≡ attribute block has (kept l from to)
+pub none_row : (block has : Bool) (l : Line) (from to : ℕ) → from ≡ to → (row : Row) → row ≡ one_run (tag_number tag.EmptyPositional) empty_run → one_row has row ≡ attribute block has (kept l from to)
 none_row block has l from to e row is = ap (one_row has) is ∙ sym (ap (attribute block has) (kept-none l from to (omega (arith, e))) ∙ none_read block has)
 
 word_read : (block has : Bool) (p : ℕ) (bs : List ℕ) → attribute block has (record { place = p; kind = word; lexeme = bs } ∷ []) ≡ one_row has (positional (run p (suc (p - p))) mark.None)
@@ -52,7 +53,7 @@ word_kept : (l : Line) (p : ℕ) → get_or l.kinds p 0 ≡ word → kept l p (p
 unfolding token_at
 word_kept l p e = kept-one l p (λ z. absurd (omega (arith, e, z))) ∙ rw e refl
 
-pub word_row : (block has : Bool) (l : Line) (from to : ℕ) → (eqb to (from + 1) && eqb (get_or l.kinds from 0) word) ≡ true → (row : Row) → row ≡ one_run tag.Positional (run from 1) → one_row has row ≡ attribute block has (kept l from to)
+pub word_row : (block has : Bool) (l : Line) (from to : ℕ) → (eqb to (from + 1) && eqb (get_or l.kinds from 0) word) ≡ true → (row : Row) → row ≡ one_run (tag_number tag.Positional) (run from 1) → one_row has row ≡ attribute block has (kept l from to)
 word_row block has l from to t row is =
     let w = and_parts (eqb to (from + 1)) (eqb (get_or l.kinds from 0) word) t in
     let one : suc (from - from) ≡ 1 = omega arith in

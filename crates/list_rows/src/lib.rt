@@ -39,7 +39,7 @@ fn attr_rows(tokens: Tokens<'_>, block: bool, rows: &mut [u32], written: Written
             place: tokens.from,
             count: 1,
         };
-        return written.put_one(rows, Row::one_run(Tag::Positional, word));
+        return written.put_one(rows, Row::one_run(Tag::Positional as u32, word));
     }
     parse_attr(tokens, block, rows, written)
 }

@@ -18,7 +18,6 @@ use Rattle.std.proofs.lemmas.Bool.{false≢true}
 use Rattle.runs.specs.declared.places.Places as read
 use Rattle.runs.proofs.Finds.{found-in}
 use Rattle.row.specs.declared.Row.{Row}
-use Rattle.row.specs.declared.tag.Tag.{Tag}
 use Rattle.row.specs.Row.{width, numbers, one_run, diagnostic, ident, Wrote}
 use Rattle.row.proofs.Laws.{Writes, writes_start, writes-part, writes-wrote, wrote_none, wrote_one}
 use Rattle.put_rows.specs.declared.Written.{Written}
@@ -41,7 +40,7 @@ unfolding run_of
 run-some [] e f = absurd (e refl)
 run-some (t ∷ ts) e f = refl
 
-module _ (kinds : List ℕ) (from to : ℕ) (r : Run) (e : (text pairs : List ℕ) → r ≡ run_of (trim (kept (line_of kinds text pairs) from to))) (tag : Tag) (buffer : List ℕ) (at : ℕ) where
+module _ (kinds : List ℕ) (from to : ℕ) (r : Run) (e : (text pairs : List ℕ) → r ≡ run_of (trim (kept (line_of kinds text pairs) from to))) (tag : ℕ) (buffer : List ℕ) (at : ℕ) where
   pub group-none : r.count ≡ 0 → (text pairs : List ℕ) → Wrote buffer at (unless_empty (one_run tag) (trim (kept (line_of kinds text pairs) from to)) []) buffer at
   group-none h text pairs =
       let ts = trim (kept (line_of kinds text pairs) from to) in
@@ -55,14 +54,14 @@ module _ (kinds : List ℕ) (from to : ℕ) (r : Run) (e : (text pairs : List �
 
 -- ---- the groups, first to last
 
-pub record Grouping (kinds : List ℕ) (kind : ℕ) (tag : Tag) (from to : ℕ) (base : List ℕ) (at i : ℕ) (cur : List ℕ) (n : ℕ) : Type 0 where
+pub record Grouping (kinds : List ℕ) (kind tag from to : ℕ) (base : List ℕ) (at i : ℕ) (cur : List ℕ) (n : ℕ) : Type 0 where
   pub low : from ≤ i
   pub high : i ≤ to
   pub few : n ≤ at + (i - from)
   pub long : length cur ≡ length base
   pub writes : (text pairs : List ℕ) → Writes base at (group_rows (one_run tag) (groups (of_kind kind) (kept (line_of kinds text pairs) from to))) cur n (group_rows (one_run tag) (groups (of_kind kind) (kept (line_of kinds text pairs) i to)))
 
-module _ (kinds : List ℕ) (kind : ℕ) (tag : Tag) (from to : ℕ) (base : List ℕ) (at : ℕ) where
+module _ (kinds : List ℕ) (kind tag from to : ℕ) (base : List ℕ) (at : ℕ) where
   pub grouping-start : from ≤ to → Grouping kinds kind tag from to base at from base at
   grouping-start h = record { low = omega arith; high = h; few = omega arith; long = refl; writes = λ text pairs. writes_start base at (group_rows (one_run tag) (groups (of_kind kind) (kept (line_of kinds text pairs) from to))) }
 
@@ -131,5 +130,5 @@ module _ (kinds text pairs : List ℕ) (from to : ℕ) where
 
 -- ---- what is so of places is so of those that they are equal to
 
-pub grouped-of : {p q : read.Places} {has : Bool} {before : List ℕ} {at : ℕ} {r : Written} {after : List ℕ} (kind : ℕ) (tag : Tag) → p ≡ q → Grouped p.kinds.now kind tag p.from.0 p.to.0 has before at r after → Grouped q.kinds.now kind tag q.from.0 q.to.0 has before at r after
+pub grouped-of : {p q : read.Places} {has : Bool} {before : List ℕ} {at : ℕ} {r : Written} {after : List ℕ} (kind tag : ℕ) → p ≡ q → Grouped p.kinds.now kind tag p.from.0 p.to.0 has before at r after → Grouped q.kinds.now kind tag q.from.0 q.to.0 has before at r after
 grouped-of {has = has} {before = before} {at = at} {r = r} {after = after} kind tag e w = subst (λ (p : read.Places). Grouped p.kinds.now kind tag p.from.0 p.to.0 has before at r after) e w

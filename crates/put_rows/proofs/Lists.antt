@@ -14,6 +14,7 @@ use Rattle.runs.specs.Places.{FoundIn}
 use Rattle.runs.proofs.KeptLaws.{onward-later, place_is, kept-none, kept-first, kept-split}
 use Rattle.row.specs.declared.Row.{Row}
 use Rattle.row.specs.declared.tag.Tag.TheVariants as tag
+use Rattle.row.specs.Tag.{tag_number}
 use Rattle.row.specs.Row.{one_run, ident, role, option, diagnostic}
 use Rattle.put_rows.specs.Rows.{one_row, row_first, is_stop, pieces, symbol_row, symbol_tag, last_empty, shorthand_read, later_groups, groups, unless_empty, group_rows}
 
@@ -91,10 +92,10 @@ last-empty-some ts t us e = rw e (go (is_stop t))
     go true = refl
     go false = refl
 
-pub symbol-row : (t : Token) (r : Run) → symbol_row t r ≡ one_run (symbol_tag t.kind) r
+pub symbol-row : (t : Token) (r : Run) → symbol_row t r ≡ one_run (tag_number (symbol_tag t.kind)) r
 symbol-row t r = go (is_hash t) (is_percent t)
   where
-    go : (a b : Bool) → cond a (ident r mark.None) (cond b (option r) (role r)) ≡ one_run (cond a tag.Id (cond b tag.Option tag.Role)) r
+    go : (a b : Bool) → cond a (ident r mark.None) (cond b (option r) (role r)) ≡ one_run (tag_number (cond a tag.Id (cond b tag.Option tag.Role))) r
     go true b = refl
     go false true = refl
     go false false = refl
@@ -112,7 +113,7 @@ module _ (l : Line) (i to start : ℕ) (h : i < to) (e : get_or l.kinds i 0 ≡ 
     unfolding shorthand_read
     short-second z = rw (pieces-here, last-empty-some (kept l start to) (token_at l start) (kept l (start + 1) to) (kept-first l start to g k), z, place_is l i)
 
-    pub short-more : (is_hash (token_at l i) && has) ≡ false → (m : ℕ) → start ≤ m → m ≤ to → FoundIn l is_stop start to m → shorthand_read has (pieces (kept l i to)) ≡ row_first (one_run (symbol_tag (token_at l i).kind) (run_of (kept l start m))) (shorthand_read (is_hash (token_at l i) || has) (pieces (kept l m to)))
+    pub short-more : (is_hash (token_at l i) && has) ≡ false → (m : ℕ) → start ≤ m → m ≤ to → FoundIn l is_stop start to m → shorthand_read has (pieces (kept l i to)) ≡ row_first (one_run (tag_number (symbol_tag (token_at l i).kind)) (run_of (kept l start m))) (shorthand_read (is_hash (token_at l i) || has) (pieces (kept l m to)))
     unfolding shorthand_read
     short-more z m a b w =
         let rest : pieces (kept l start to) ≡ pieces (kept l m to) = ap pieces (kept-split l start to m a b) ∙ pieces-append (kept l start m) (kept l m to) w.none in

@@ -15,8 +15,8 @@ use Rattle.runs.specs.Run.{kept, is_hash, run_of}
 use Rattle.runs.proofs.KeptLaws.{kind-is, kept-none}
 use Rattle.runs.specs.Places.{all, StartsAt}
 use Rattle.row.specs.declared.Row.{Row}
-use Rattle.row.specs.declared.tag.Tag.{Tag}
 use Rattle.row.specs.Row.{one_run, diagnostic}
+use Rattle.row.specs.Tag.{tag_number}
 use Rattle.row.proofs.Laws.{Writes, length-with_rows, writes-part, writes-wrote}
 use Rattle.put_rows.specs.declared.Written.{Written}
 use Rattle.put_rows.specs.Rows.{Read, one_row, row_first, symbol_tag, pieces, shorthand_read}
@@ -80,11 +80,11 @@ module _ (kinds text pairs : List ℕ) (from to : ℕ) (has : Bool) (base : List
         shorting-second z after q =
             ends_by (diagnostic i 4) after q (short-second (line_of kinds text pairs) i to start h (w.symbol.first h) (w.symbol.stop h) (v.part.same text pairs) id g (v.first g) (ap (λ (b : Bool). b && id) (sym hashes) ∙ z))
 
-        pub shorting-next : (eqb (get_or kinds i 0) hash && id) ≡ false → (m : ℕ) → StopsAt kinds text pairs start to m → (run : Run) → run ≡ run_of (kept (line_of kinds text pairs) start m) → (tag : Tag) → tag ≡ symbol_tag (get_or kinds i 0)
+        pub shorting-next : (eqb (get_or kinds i 0) hash && id) ≡ false → (m : ℕ) → StopsAt kinds text pairs start to m → (run : Run) → run ≡ run_of (kept (line_of kinds text pairs) start m) → (tag : ℕ) → tag ≡ tag_number (symbol_tag (get_or kinds i 0))
             → (row : Row) → row ≡ one_run tag run → (id' : Bool) → id' ≡ (eqb (get_or kinds i 0) hash || id) → (after : List ℕ) (q : Written) → WroteId cur n (one_row id' row) after q → Shorting kinds text pairs from to has base at m after q.rows q.id
         shorting-next z m s run e tag f row t id' p after q put =
             let l = line_of kinds text pairs in
-            let tags : symbol_tag (token_at l i).kind ≡ tag = rw (kind-is l i hash, kind-is l i percent) (sym f) in
+            let tags : tag_number (symbol_tag (token_at l i).kind) ≡ tag = rw (kind-is l i hash, kind-is l i percent) (sym f) in
             let ids : (is_hash (token_at l i) || id) ≡ q.id = ap (λ (b : Bool). b || id) (sym hashes) ∙ sym p ∙ sym put.id in
             let d = left_is (row_first row (shorthand_read q.id (pieces (kept l m to))))
             (short-more l i to start h (w.symbol.first h) (w.symbol.stop h) (v.part.same text pairs) id g (v.first g) (ap (λ (b : Bool). b && id) (sym hashes) ∙ z) m s.low s.high s.found

@@ -92,10 +92,10 @@ abbrev pub group_read : (has : Bool) → (Run → Row) → List (List Token) →
 group_read has f gs = record { rows = group_rows f gs; has_id = has }
 
 -- the rows of one group, and of tokens that are split at a kind, by their tag
-abbrev pub group_row : Tag → List Token → List Row
+abbrev pub group_row : (tag : ℕ) → List Token → List Row
 group_row t g = unless_empty (one_run t) (trim g) []
 
-abbrev pub split_rows : Tag → (kind : ℕ) → List Token → List Row
+abbrev pub split_rows : (tag kind : ℕ) → List Token → List Row
 split_rows t kind ts = group_rows (one_run t) (groups (of_kind kind) ts)
 
 -- "`id` empty is 3; second id is 4 at its first token." 3 is at "place 0, the list's own"

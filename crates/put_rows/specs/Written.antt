@@ -5,7 +5,6 @@ use Rattle.token.specs.Line.{Line, Token, line_of, token_at}
 use Rattle.runs.specs.Run.{kept}
 use Rattle.runs.specs.Places.{FoundIn}
 use Rattle.row.specs.declared.Row.{Row}
-use Rattle.row.specs.declared.tag.Tag.{Tag}
 use Rattle.row.specs.Row.{with_rows, Wrote}
 use Rattle.put_rows.specs.declared.Written.{Written}
 use Rattle.put_rows.specs.Rows.{Read, is_stop, in_shorthand, split_rows, run_rows}
@@ -55,6 +54,6 @@ Positioned kinds from to has before at r after =
     (text pairs : List ℕ) → WroteId before at (record { rows = run_rows (line_of kinds text pairs) from to; has_id = has }) after r
 
 -- of `put_groups`: the places from..to split at a kind, whatever the line's text
-abbrev pub Grouped : (kinds : List ℕ) (kind : ℕ) (tag : Tag) (from to : ℕ) (has : Bool) (before : List ℕ) (at : ℕ) (r : Written) (after : List ℕ) → Type 0
+abbrev pub Grouped : (kinds : List ℕ) (kind tag from to : ℕ) (has : Bool) (before : List ℕ) (at : ℕ) (r : Written) (after : List ℕ) → Type 0
 Grouped kinds kind tag from to has before at r after =
     (text pairs : List ℕ) → Outcome (record { rows = split_rows tag kind (kept (line_of kinds text pairs) from to); has_id = has }) (to - from) before at r after

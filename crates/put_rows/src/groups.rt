@@ -1,7 +1,6 @@
 // The groups of options and roles.
 ghost use Rattle.std.specs.Prelude.{◌≡◌, ◌+◌, ◌*◌, ◌-◌, ◌≤◌, length};
 ghost use Rattle.token.specs.Kind.{attr_ref};
-ghost use Rattle.token.specs.KindNumber.{number_of};
 ghost use Rattle.token.specs.Line.{most_tokens};
 ghost use Rattle.row.specs.Row.{width};
 ghost use Rattle.put_rows.specs.Rows.{group_row};
@@ -9,15 +8,13 @@ ghost use Rattle.put_rows.specs.Written.{RowsOf, Grouped};
 
 use super::Written;
 use row::Row;
-use row::tag::Tag;
 use runs::places::Places;
 use token::TokenPlace;
-use token::kind::TokenKind;
 
 impl Written {
     // Writes the row of a group, if any token is left when it is trimmed. `few` stands here, below and at `put_positional`, since to ask for `Tokens`, whose
     // line has it, would be to ask for a text and for pairs as well.
-    fn put_group(self, rows: &mut [u32], group: Places<'_>, tag: Tag) -> Written
+    fn put_group(self, rows: &mut [u32], group: Places<'_>, tag: u32) -> Written
         requires few { length group.kinds.now ≤ most_tokens }
         requires room { width * (self.rows + (group.to.0 - group.from.0)) ≤ length rows.old }
         ensures rows { RowsOf (group_row tag) group.entry.kinds.now group.entry.from.0 group.entry.to.0 rows.old self.rows result.rows rows.new }
@@ -37,13 +34,13 @@ impl Written {
         self,
         rows: &mut [u32],
         places: Places<'_>,
-        delimiter: TokenKind,
-        tag: Tag,
+        delimiter: u8,
+        tag: u32,
     ) -> Written
         requires few { length places.kinds.now ≤ most_tokens }
-        requires no_attr_ref { number_of delimiter ≡ attr_ref → ⊥ }
+        requires no_attr_ref { delimiter ≡ attr_ref → ⊥ }
         requires room { width * (self.rows + (places.to.0 - places.from.0)) ≤ length rows.old }
-        ensures { Grouped places.entry.kinds.now (number_of delimiter) tag places.entry.from.0 places.entry.to.0 self.id rows.old self.rows result rows.new }
+        ensures { Grouped places.entry.kinds.now delimiter tag places.entry.from.0 places.entry.to.0 self.id rows.old self.rows result rows.new }
     {
         let mut written = self;
         let mut from = places.from;

@@ -2,7 +2,6 @@
 ghost use Rattle.std.specs.Prelude.{◌≡◌, ◌+◌, ◌*◌, ◌≤◌, length};
 ghost use Rattle.token.specs.Line.{most_tokens};
 ghost use Rattle.row.specs.Row.{width, empty_positional, two_runs, diagnostic, Fits, small};
-ghost use Rattle.row.specs.Diagnostic.{diagnostic_number};
 ghost use Rattle.put_rows.specs.Rows.{one_row, id_run};
 ghost use Rattle.put_rows.specs.Written.{WroteId, Positioned};
 
@@ -33,7 +32,7 @@ impl Written {
         requires room { width * self.rows + width ≤ length rows.old }
         ensures { WroteId rows.old self.rows (one_row self.id empty_positional) rows.new result }
     {
-        self.put_one(rows, Row::one_run(Tag::EmptyPositional, Run::EMPTY))
+        self.put_one(rows, Row::one_run(Tag::EmptyPositional as u32, Run::EMPTY))
     }
 
     // Writes the row of the tokens kept of some places, a positional. One of a run that is known is a `Row` in one line: `Row::unquoted` in
@@ -43,11 +42,11 @@ impl Written {
         requires room { width * self.rows + width ≤ length rows.old }
         ensures { Positioned places.entry.kinds.now places.entry.from.0 places.entry.to.0 self.id rows.old self.rows result rows.new }
     {
-        self.put_one(rows, Row::one_run(Tag::Positional, places.run_of()))
+        self.put_one(rows, Row::one_run(Tag::Positional as u32, places.run_of()))
     }
 
     // Writes a row of a name and a value; whether the list has an id is handed on.
-    pub fn put_named(self, rows: &mut [u32], tag: Tag, name: Run, value: Unquoted) -> Written
+    pub fn put_named(self, rows: &mut [u32], tag: u32, name: Run, value: Unquoted) -> Written
         requires room { width * self.rows + width ≤ length rows.old }
         requires fits { Fits (two_runs tag name value.run value.mark) }
         ensures { WroteId rows.old self.rows (one_row self.id (two_runs tag name value.run value.mark)) rows.new result }
@@ -62,16 +61,17 @@ impl Written {
     }
 
     // Writes a diagnostic. Its number stands where another row has a run's count: that is how document 01 lays out this row.
-    pub fn put_diagnostic(self, rows: &mut [u32], place: TokenPlace, why: Diagnostic) -> Written
+    pub fn put_diagnostic(self, rows: &mut [u32], place: TokenPlace, number: usize) -> Written
         requires room { width * self.rows + width ≤ length rows.old }
         requires small { small place.0 }
-        ensures { WroteId rows.old self.rows (one_row self.id (diagnostic place.0 (diagnostic_number why))) rows.new result }
+        requires small_number { small number }
+        ensures { WroteId rows.old self.rows (one_row self.id (diagnostic place.0 number)) rows.new result }
     {
         let run = Run {
             place,
-            count: usize::from(why),
+            count: number,
         };
-        self.put_one(rows, Row::one_run(Tag::Diagnostic, run))
+        self.put_one(rows, Row::one_run(Tag::Diagnostic as u32, run))
     }
 
     // Writes the row of an id, or what is wrong with it.
@@ -82,15 +82,23 @@ impl Written {
         ensures { WroteId rows.old self.rows (id_run self.id id.run id.mark) rows.new result }
     {
         if id.run.count == 0 {
-            return self.put_diagnostic(rows, TokenPlace(0), Diagnostic::InvalidEmptyIdAttribute);
+            return self.put_diagnostic(
+                rows,
+                TokenPlace(0),
+                Diagnostic::InvalidEmptyIdAttribute as usize,
+            );
         }
         if self.id {
-            return self.put_diagnostic(rows, id.run.place, Diagnostic::MoreThanOneIdAttribute);
+            return self.put_diagnostic(
+                rows,
+                id.run.place,
+                Diagnostic::MoreThanOneIdAttribute as usize,
+            );
         }
         let first = Written {
             rows: self.rows,
             id: true,
         };
-        first.put_one(rows, Row::unquoted(Tag::Id, id))
+        first.put_one(rows, Row::unquoted(Tag::Id as u32, id))
     }
 }

@@ -68,13 +68,21 @@ impl Written {
             };
             let start = after.first_kept();
             if tokens.to.0 <= start.0 {
-                return written.put_diagnostic(rows, symbol, Diagnostic::InvalidIdAttribute);
+                return written.put_diagnostic(
+                    rows,
+                    symbol,
+                    Diagnostic::InvalidIdAttribute as usize,
+                );
             }
             let kind = tokens.line.kinds[symbol.0];
             let hash = kind == TokenKind::Hash as u8;
             let has = written.id;
             if hash && has {
-                return written.put_diagnostic(rows, symbol, Diagnostic::MoreThanOneIdAttribute);
+                return written.put_diagnostic(
+                    rows,
+                    symbol,
+                    Diagnostic::MoreThanOneIdAttribute as usize,
+                );
             }
             let end = find_stop(Tokens {
                 line: tokens.line,
@@ -90,7 +98,10 @@ impl Written {
                 rows: written.rows,
                 id: has || hash,
             };
-            written = next.put_one(rows, Row::one_run(symbol_tag(kind), taken.run_of()));
+            written = next.put_one(
+                rows,
+                Row::one_run(u32::from(symbol_tag(kind)), taken.run_of()),
+            );
             symbol = end;
         }
         written

@@ -17,16 +17,17 @@ fn run_of(place: u32, count: u32) -> Run {
     }
 }
 
-// The row that is told by its numbers; none, where no row has them. No `TryFrom`, since neither the trait nor the row is this crate's; in `row` it would be
-// a public conversion with a contract, for this one caller.
-fn row_of(numbers: [u32; WIDTH]) -> Option<Row> {
+// The row that is told by its numbers, and its tag; none, where no row has them. No `TryFrom`, since neither the trait nor the row is this crate's; in
+// `row` it would be a public conversion with a contract, for this one caller.
+fn row_of(numbers: [u32; WIDTH]) -> Option<(Tag, Row)> {
     let [tag, place, count, second_place, second_count, mark] = numbers;
-    Some(Row {
-        tag: Tag::try_from(tag).ok()?,
+    let row = Row {
+        tag,
         first: run_of(place, count),
         second: run_of(second_place, second_count),
         mark: QuoteMark::try_from(mark).ok()?,
-    })
+    };
+    Some((Tag::try_from(tag).ok()?, row))
 }
 
 // What is said of the quotes that were taken off a run.
@@ -83,8 +84,8 @@ impl Shown<'_> {
     }
 
     // Writes a row: its tag, then what its runs say.
-    fn write_words(self, rt: &impl Print, row: Row) -> io::Result<()> {
-        match row.tag {
+    fn write_words(self, rt: &impl Print, tag: Tag, row: Row) -> io::Result<()> {
+        match tag {
             Tag::EmptyPositional => rt.write_all(b"positional, empty"),
             Tag::Positional => self.write_run(rt, "positional ", row.first),
             Tag::Id => self.write_run(rt, "id ", row.first),
@@ -115,8 +116,8 @@ impl Shown<'_> {
     // Writes a row on a line of its own, and which quotes stood round its last run.
     pub(crate) fn write_row(self, rt: &impl Print, numbers: [u32; WIDTH]) -> io::Result<()> {
         rt.write_all(b"  ")?;
-        if let Some(row) = row_of(numbers) {
-            self.write_words(rt, row)?;
+        if let Some((tag, row)) = row_of(numbers) {
+            self.write_words(rt, tag, row)?;
             rt.write_all(quotes_told(row.mark).as_bytes())?;
         }
         rt.write_all(b"\n")

@@ -6,11 +6,10 @@ use Rattle.std.proofs.lemmas.List.Edits.{sets}
 use Rattle.std.proofs.Math.Seq.{length-sets}
 use Rattle.token.specs.declared.Run.{Run}
 use Rattle.row.specs.declared.Row.{Row}
-use Rattle.row.specs.declared.tag.Tag.{Tag}
 use Rattle.row.specs.Row.{width, numbers, one_run, all_numbers, with_rows, Wrote, small, Fits}
 
 -- a row of one run whose numbers fit
-pub one-fits : (t : Tag) (r : Run) (row : Row) → row ≡ one_run t r → small r.place.0 → small r.count → Fits row
+pub one-fits : (t : ℕ) (r : Run) (row : Row) → row ≡ one_run t r → small r.place.0 → small r.count → Fits row
 one-fits t r row e p c = rw e (record { first_place = p; first_count = c; second_place = omega arith; second_count = omega arith })
 
 pub sets-append : (l : List ℕ) (i : ℕ) (xs ys : List ℕ) → sets l i (xs ++ ys) ≡ sets (sets l i xs) (i + length xs) ys

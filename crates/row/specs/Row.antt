@@ -7,7 +7,6 @@ use Rattle.token.specs.declared.quotes.QuoteMark.TheVariants as mark
 use Rattle.token.specs.Line.{run, empty_run}
 use Rattle.token.specs.Quotes.{mark_number}
 use Rattle.row.specs.declared.Row.{Row}
-use Rattle.row.specs.declared.tag.Tag.{Tag}
 use Rattle.row.specs.declared.tag.Tag.TheVariants as tag
 use Rattle.row.specs.Tag.{tag_number}
 
@@ -17,49 +16,49 @@ abbrev pub width : ℕ
 width = 6
 
 abbrev pub numbers : Row → List ℕ
-numbers r = tag_number r.tag ∷ r.first.place.0 ∷ r.first.count ∷ r.second.place.0 ∷ r.second.count ∷ mark_number r.mark ∷ []
+numbers r = r.tag ∷ r.first.place.0 ∷ r.first.count ∷ r.second.place.0 ∷ r.second.count ∷ mark_number r.mark ∷ []
 
-abbrev pub two_runs : Tag → (first second : Run) → QuoteMark → Row
+abbrev pub two_runs : (tag : ℕ) → (first second : Run) → QuoteMark → Row
 two_runs t a b m = record { tag = t; first = a; second = b; mark = m }
 
 -- a row of one run with its mark, and of one off which no quotes were taken
-abbrev pub marked_run : Tag → Run → QuoteMark → Row
+abbrev pub marked_run : (tag : ℕ) → Run → QuoteMark → Row
 marked_run t r = two_runs t r empty_run
 
-abbrev pub one_run : Tag → Run → Row
+abbrev pub one_run : (tag : ℕ) → Run → Row
 one_run t r = marked_run t r mark.None
 
 -- "Tags: 1 empty positional; 2 positional run; 3 named, name then value, value under `attr_value`; 4 id; 5 role; 6 option; 7 diagnostic (place,
 -- number, 0, 0); 8 named `subs` or `cols`, value under `none`."
 abbrev pub empty_positional : Row
-empty_positional = one_run tag.EmptyPositional empty_run
+empty_positional = one_run (tag_number tag.EmptyPositional) empty_run
 
 abbrev pub positional : Run → QuoteMark → Row
-positional = marked_run tag.Positional
+positional = marked_run (tag_number tag.Positional)
 
 abbrev pub named : (name value : Run) → QuoteMark → Row
-named = two_runs tag.Named
+named = two_runs (tag_number tag.Named)
 
 abbrev pub ident : Run → QuoteMark → Row
-ident = marked_run tag.Id
+ident = marked_run (tag_number tag.Id)
 
 abbrev pub role : Run → Row
-role = one_run tag.Role
+role = one_run (tag_number tag.Role)
 
 abbrev pub option : Run → Row
-option = one_run tag.Option
+option = one_run (tag_number tag.Option)
 
 abbrev pub diagnostic : (place number : ℕ) → Row
-diagnostic p n = one_run tag.Diagnostic (run p n)
+diagnostic p n = one_run (tag_number tag.Diagnostic) (run p n)
 
 abbrev pub plain : (name value : Run) → QuoteMark → Row
-plain = two_runs tag.Plain
+plain = two_runs (tag_number tag.Plain)
 
--- the numbers of the tags of these rows, in this order
+-- the tags of these rows, in this order
 abbrev pub tags : List ℕ
 tags =
-    tag_number tag.EmptyPositional ∷ tag_number tag.Positional ∷ tag_number tag.Named ∷ tag_number tag.Id ∷ tag_number tag.Role ∷ tag_number tag.Option
-    ∷ tag_number tag.Diagnostic ∷ tag_number tag.Plain ∷ []
+    empty_positional.tag ∷ (positional empty_run mark.None).tag ∷ (named empty_run empty_run mark.None).tag ∷ (ident empty_run mark.None).tag ∷ (role empty_run).tag
+    ∷ (option empty_run).tag ∷ (diagnostic 0 0).tag ∷ (plain empty_run empty_run mark.None).tag ∷ []
 
 -- the numbers of some rows, one row after the other
 unfoldable pub all_numbers : List Row → List ℕ

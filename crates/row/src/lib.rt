@@ -5,7 +5,6 @@ ghost use Rattle.std.specs.Prelude.{◌≡◌, ◌+◌, ◌*◌, ◌≤◌, leng
 ghost use Rattle.std.proofs.lemmas.List.Edits.{sets};
 ghost use Rattle.row.specs.Row.{width, numbers, marked_run, one_run, room_for, Fits};
 
-use tag::Tag;
 use token::Run;
 use token::quotes::{QuoteMark, Unquoted};
 
@@ -16,11 +15,12 @@ pub mod tag;
 pub const WIDTH: usize = 6;
 
 // A row: its tag, then two runs; an unused run is empty; then which quotes were taken off the last run that is used, if that was unquoted. Two runs whatever
-// the tag, and no enum that gives each tag its own: document 01 says of each tag what the two runs of its row are, and the buffer has both. That its numbers
-// fit the buffer's is no fact of the type, since the rules make rows of any runs: `Fits` stands in the contracts.
+// the tag, and no enum that gives each tag its own: document 01 says of each tag what the two runs of its row are, and the buffer has both. The tag is a
+// number, `Tag::Id as u32`, and no `Tag`: a row of any number is made and written. That its numbers fit the buffer's is no fact of the type, since the rules
+// make rows of any runs: `Fits` stands in the contracts.
 #[derive(Clone, Copy, Debug, PartialEq, Eq)]
 pub struct Row {
-    pub tag: Tag,
+    pub tag: u32,
     pub first: Run,
     pub second: Run,
     pub mark: QuoteMark,
@@ -51,7 +51,7 @@ pub fn has_room(room: usize, tokens: usize) -> bool
 
 impl Row {
     // A row of one run that went through unquoting.
-    pub fn unquoted(tag: Tag, text: Unquoted) -> Row
+    pub fn unquoted(tag: u32, text: Unquoted) -> Row
         ensures { result ≡ marked_run tag text.run text.mark }
     {
         Row {
@@ -63,7 +63,7 @@ impl Row {
     }
 
     // A row of one run off which no quotes were taken.
-    pub fn one_run(tag: Tag, run: Run) -> Row
+    pub fn one_run(tag: u32, run: Run) -> Row
         ensures { result ≡ one_run tag run }
     {
         let mark = QuoteMark::None;
@@ -78,7 +78,7 @@ impl Row {
         ensures { rows.new ≡ sets rows.old (width * at) (numbers self) }
     {
         let i = WIDTH * at;
-        rows[i] = u32::from(self.tag);
+        rows[i] = self.tag;
         rows[i + 1] = self.first.place.0 as u32;
         rows[i + 2] = self.first.count as u32;
         rows[i + 3] = self.second.place.0 as u32;

@@ -4,7 +4,6 @@
 ghost use Rattle.std.specs.Prelude.{◌≡◌, List, ℕ, ◌+◌, ◌-◌, ◌≤◌, ◌<◌, length, get_or, eqb, ◌||◌};
 ghost use Rattle.token.specs.Kind.{attr_ref, whitespace};
 ghost use Rattle.token.specs.Line.{line_of};
-ghost use Rattle.token.specs.KindNumber.{number_of};
 ghost use Rattle.runs.specs.Run.{of_kind, trim_start, trim_end, trim, quote_mark, mark_of, unquote, unquoted, run_of, in_run, first_place, place_of_kind, between};
 ghost use Rattle.runs.specs.Kept.{OfKept};
 ghost use Rattle.runs.specs.Places.{Ends, all, StartsAt, EndsAt, Part, FoundAt};
@@ -171,12 +170,11 @@ impl<'a> Places<'a> {
     }
 
     // The place of the first kept token of a kind, or `to`.
-    pub fn find_kind(self, kind: TokenKind) -> TokenPlace
-        requires { number_of kind ≡ attr_ref → ⊥ }
-        ensures place { OfKept (place_of_kind (number_of kind) self.entry.to.0) self.entry result.0 }
-        ensures found { FoundAt (of_kind (number_of kind)) self.entry.kinds.now self.entry.from.0 self.entry.to.0 result.0 }
+    pub fn find_kind(self, kind: u8) -> TokenPlace
+        requires { kind ≡ attr_ref → ⊥ }
+        ensures place { OfKept (place_of_kind kind self.entry.to.0) self.entry result.0 }
+        ensures found { FoundAt (of_kind kind) self.entry.kinds.now self.entry.from.0 self.entry.to.0 result.0 }
     {
-        let number = u8::from(kind);
-        self.find(|p| self.kinds[p.0] == number)
+        self.find(|p| self.kinds[p.0] == kind)
     }
 }

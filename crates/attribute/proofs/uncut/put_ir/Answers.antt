@@ -4,6 +4,7 @@ use Rattle.token.specs.Kind.{comma, whitespace}
 use Rattle.token.specs.Checked.{line_in}
 use Rattle.runs.specs.Run.{kept}
 use Rattle.row.specs.declared.tag.Tag.TheVariants as tag
+use Rattle.row.specs.Tag.{tag_number}
 use Rattle.put_rows.specs.Rows.{split_rows}
 use Rattle.put_rows.specs.Written.{Outcome, Shorthanded}
 use Rattle.put_rows.proofs.GroupRows.{grouped-of}
@@ -25,16 +26,16 @@ pub returns-in-Options : goal.returns-in-Options
 returns-in-Options c =
     let a = c.args in
     let t = c.in_run.result in
-    let v = grouped-of comma tag.Option c.places-places.ensures c.put_groups.ensures _ _ in
-    let w = of-run (λ l from to. Outcome (record { rows = split_rows tag.Option comma (kept l from to); has_id = a.written.id }) (to - from) a.rows.now a.written.rows c.put_groups.result c.put_groups.new.rows) t _ c.in_run.ensures v in
+    let v = grouped-of comma (tag_number tag.Option) c.places-places.ensures c.put_groups.ensures _ _ in
+    let w = of-run (λ l from to. Outcome (record { rows = split_rows (tag_number tag.Option) comma (kept l from to); has_id = a.written.id }) (to - from) a.rows.now a.written.rows c.put_groups.result c.put_groups.new.rows) t _ c.in_run.ensures v in
     put-options (line_in a.line) _ c.requires.uncut _ _ _ _ _ _ c.in-Options.is (told-as _ _ _ _ _ _ refl _ _ w (omega arith))
 
 pub returns-in-Roles : goal.returns-in-Roles
 returns-in-Roles c =
     let a = c.args in
     let t = c.in_run-in-Roles.result in
-    let v = grouped-of whitespace tag.Role c.places-places-in-Roles.ensures c.put_groups-in-Roles.ensures _ _ in
-    let w = of-run (λ l from to. Outcome (record { rows = split_rows tag.Role whitespace (kept l from to); has_id = a.written.id }) (to - from) a.rows.now a.written.rows c.put_groups-in-Roles.result c.put_groups-in-Roles.new.rows) t _ c.in_run-in-Roles.ensures v in
+    let v = grouped-of whitespace (tag_number tag.Role) c.places-places-in-Roles.ensures c.put_groups-in-Roles.ensures _ _ in
+    let w = of-run (λ l from to. Outcome (record { rows = split_rows (tag_number tag.Role) whitespace (kept l from to); has_id = a.written.id }) (to - from) a.rows.now a.written.rows c.put_groups-in-Roles.result c.put_groups-in-Roles.new.rows) t _ c.in_run-in-Roles.ensures v in
     put-roles (line_in a.line) _ c.requires.uncut _ _ _ _ _ _ c.in-Roles.is (told-as _ _ _ _ _ _ refl _ _ w (omega arith))
 
 pub returns-in-Id : goal.returns-in-Id

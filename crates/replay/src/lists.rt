@@ -1,4 +1,6 @@
 // Recorded calls that take a line of tokens.
+ghost use Rattle.std.specs.Prelude.{◌≤◌, length};
+
 use crate::input::Numbers;
 use crate::library;
 use crate::line::Line;
@@ -15,7 +17,9 @@ const MOST_ROWS: usize = 24700;
 const BEFORE: u32 = 4_000_000_000;
 
 // How many numbers of the row buffer, in a part of it, are not what they were before the call.
-fn changed(rows: &[u32]) -> usize {
+fn changed(rows: &[u32]) -> usize
+    ensures { result ≤ length rows.now }
+{
     rows.iter().filter(|n| **n != BEFORE).count()
 }
 

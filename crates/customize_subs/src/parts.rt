@@ -1,5 +1,6 @@
 // The parts of the text between commas, and what each asks for.
-ghost use Rattle.std.specs.Prelude.{◌≡◌, ◌<◌, length, get_or};
+ghost use Rattle.std.specs.Prelude.{◌≡◌, ◌≤◌, ◌<◌, eqb, length, get_or, position};
+ghost use Rattle.std.specs.List.{position_or_len};
 ghost use Rattle.customize_subs.specs.Text.{front, back, is_modifier, modified};
 ghost use Rattle.customize_subs.specs.Customizing.{part_of, strategy_of, name_of};
 
@@ -28,6 +29,21 @@ pub(crate) fn begins_modified(text: &[u8]) -> bool
     ensures { result ≡ is_modifier (get_or text.now 0 0) }
 {
     matches!(text, [b, ..] if is_modifier(*b))
+}
+
+// The place of the first comma, if there is one.
+fn first_comma(text: &[u8]) -> Option<usize>
+    ensures { result ≡ position (λ b. eqb b 44) text.now }
+{
+    text.iter().position(|b| *b == b',')
+}
+
+// How many bytes stand before the first comma.
+pub(crate) fn to_comma(text: &[u8]) -> usize
+    ensures value { result ≡ position_or_len (λ b. eqb b 44) text.now }
+    ensures within { result ≤ length text.now }
+{
+    first_comma(text).unwrap_or(text.len())
 }
 
 // The part without the spaces in front of it. Byte 32 alone: `trim_ascii` takes tabs and line ends off too.

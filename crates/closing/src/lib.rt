@@ -57,9 +57,9 @@ pub fn link_macro(kinds: &[u8], pairs: &[u32]) -> LinkMacro
         escaped: false,
     };
     let last = kinds.len().saturating_sub(1);
-    let (lexemes, _) = pairs.as_chunks::<2>();
-    for (i, (kind, [_, length])) in kinds[..last].iter().zip(lexemes).enumerate() {
-        match turn_at(seen, TokenPlace(i), *kind, *length == 1) {
+    // The length of a lexeme is read where it is asked for, at an EqualSigns: no `zip` with the pairs, which looks at each turn whether there is one.
+    for (i, kind) in kinds[..last].iter().enumerate() {
+        match turn_at(seen, TokenPlace(i), *kind, pairs[2 * i + 1] == 1) {
             ControlFlow::Break(link) => return link,
             ControlFlow::Continue(next) => seen = next,
         }

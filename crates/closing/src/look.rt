@@ -15,6 +15,16 @@ pub(crate) struct Seen {
     pub(crate) escaped: bool,
 }
 
+// The kinds that decide something, by their numbers in a line. The others, which most tokens of a link have, go past all four by one look at the number; made a
+// `TokenKind` first, each token goes through a table.
+const OPEN_BRACKET: u8 = TokenKind::OpenBracket as u8;
+
+const CLOSE_BRACKET: u8 = TokenKind::CloseBracket as u8;
+
+const DOUBLE_QUOTE: u8 = TokenKind::DoubleQuote as u8;
+
+const EQUAL_SIGNS: u8 = TokenKind::EqualSigns as u8;
+
 // What a token of kind k at a place decides: that there is a list, that the text is closed before it, or nothing yet. `one` says that its length is 1.
 // Inlined, as `link_macro` is.
 #[inline(always)]
@@ -26,21 +36,21 @@ pub(crate) fn turn_at(seen: Seen, at: TokenPlace, k: u8, one: bool) -> ControlFl
         escaped: k == TokenKind::Backslash as u8,
         ..seen
     };
-    match TokenKind::try_from(k) {
-        Ok(TokenKind::CloseBracket) if seen.nested => ControlFlow::Continue(Seen {
+    match k {
+        CLOSE_BRACKET if seen.nested => ControlFlow::Continue(Seen {
             nested: false,
             ..next
         }),
-        Ok(TokenKind::CloseBracket) if !seen.escaped => ControlFlow::Break(LinkMacro::AsText(at)),
-        Ok(TokenKind::OpenBracket) if !seen.escaped => ControlFlow::Continue(Seen {
+        CLOSE_BRACKET if !seen.escaped => ControlFlow::Break(LinkMacro::AsText(at)),
+        OPEN_BRACKET if !seen.escaped => ControlFlow::Continue(Seen {
             nested: true,
             ..next
         }),
-        Ok(TokenKind::DoubleQuote) if !seen.escaped => ControlFlow::Continue(Seen {
+        DOUBLE_QUOTE if !seen.escaped => ControlFlow::Continue(Seen {
             quoted: !seen.quoted,
             ..next
         }),
-        Ok(TokenKind::EqualSigns) if one && !seen.quoted => ControlFlow::Break(LinkMacro::AsList),
+        EQUAL_SIGNS if one && !seen.quoted => ControlFlow::Break(LinkMacro::AsList),
         _ => ControlFlow::Continue(next),
     }
 }

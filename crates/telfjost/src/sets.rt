@@ -9,6 +9,8 @@ use refusals::number_or_0;
 use substitutions::{Mode, Move, SetAnswer, Subs, Substitutions};
 
 // A move of the kind that the number names. A number that names none is passed over: the set's own refusal, and the set given.
+// Inlined, as `parsed` is, so that each name that C links has its move and its mode at compile time.
+#[inline(always)]
 fn make(strategy: Move, mode: Mode, set: Substitutions, kind: u8) -> SetAnswer
     ensures { result ≡ by_number (answered strategy) mode set (kind_of kind) }
 {

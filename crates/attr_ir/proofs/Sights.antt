@@ -140,6 +140,11 @@ module _ (kinds text pairs : List ℕ) (from to : ℕ) (block : Bool) where
       unfolding look
       at-token = rw (kept-first (line_of kinds text pairs) i to h e)
 
+      -- the same where the next token kept is at place `next`
+      module _ (next : ℕ) (v : StartsAt all kinds (i + 1) to next) where
+        at_next : look block first noted (kept (line_of kinds text pairs) i to) ≡ decided (sight block first noted (token_at (line_of kinds text pairs) i) (kept (line_of kinds text pairs) next to)) (λ n. look block false n (kept (line_of kinds text pairs) next to))
+        at_next = at-token ∙ ap (λ (ts : List Token). decided (sight block first noted (token_at (line_of kinds text pairs) i) ts) (λ n. look block false n ts)) (sym (v.part.same text pairs))
+
       pub looking-on : (n : Bool) → Continue n ≡ sight block first noted (token_at (line_of kinds text pairs) i) (kept (line_of kinds text pairs) (i + 1) to) → Looking kinds text pairs from to block false n (i + 1)
       looking-on n f =
           record {

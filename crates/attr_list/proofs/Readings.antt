@@ -107,8 +107,12 @@ module _ (most : ℕ) (e : Entry) (l : Line) (given : List ℕ) where
   outcome-room z f = outcome-refused rows_too_short (refused-room most l (length given) 0 (sym z) refl f) (λ e. omega (arith, e))
 
   -- none of them does
-  pub outcome-read : refusal most l ≡ 0 → room_for (length l.kinds) (length given) ≡ true → (a : Answer) (left : List ℕ) → Gives given (unless_closed l.kinds (read_by e l)) a left → Outcome most e l given a left
-  outcome-read z f a left w = gives-outcome a left (gives_as given _ _ a left w (read_taken most l (length given) e (refused_none most l (length given) z f)))
+  pub outcome-read : 0 ≡ lent_refusal most l (length given) → (a : Answer) (left : List ℕ) → Gives given (unless_closed l.kinds (read_by e l)) a left → Outcome most e l given a left
+  outcome-read z a left w = gives-outcome a left (gives_as given _ _ a left w (read_taken most l (length given) e z))
+
+  -- the same by the checks of the line and of the buffer
+  pub outcome-taken : refusal most l ≡ 0 → room_for (length l.kinds) (length given) ≡ true → (a : Answer) (left : List ℕ) → Gives given (unless_closed l.kinds (read_by e l)) a left → Outcome most e l given a left
+  outcome-taken z f = outcome-read (refused_none most l (length given) z f)
 
 -- ---- an entry that is no link reads a list
 
@@ -135,13 +139,13 @@ open_gives kinds r given h a left w = gives_as given r (unless_closed kinds r) a
 module _ (most : ℕ) (e : Entry) (l m : Line) (given : List ℕ) (z : refusal most l ≡ 0) (f : room_for (length l.kinds) (length given) ≡ true) (h : kind_at l.kinds 0 ≡ close_bracket → ⊥) (same : m ≡ l) (a : Answer) (left : List ℕ) where
   pub outcome-list : (e ≡ Link → ⊥) → Gives given (list_of m (full_line e) (is_block e)) a left → Outcome most e l given a left
   outcome-list n w =
-      outcome-read most e l given z f a left
+      outcome-taken most e l given z f a left
       (open_gives l.kinds (read_by e l) given h a left
       (gives_as given _ _ a left (subst (λ (x : Line). Gives given (list_of x (full_line e) (is_block e)) a left) same w) (list-entry e l n)))
 
   pub outcome-link : e ≡ Link → Gives given (link_to m (link_macro m.kinds m.pairs)) a left → Outcome most e l given a left
   outcome-link is w =
-      outcome-read most e l given z f a left
+      outcome-taken most e l given z f a left
       (open_gives l.kinds (read_by e l) given h a left
       (subst (λ (x : Entry). Gives given (read_by x l) a left) (sym is)
       (subst (λ (x : Line). Gives given (link_to x (link_macro x.kinds x.pairs)) a left) same w)))

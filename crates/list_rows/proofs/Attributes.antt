@@ -53,9 +53,12 @@ word_kept : (l : Line) (p : ℕ) → get_or l.kinds p 0 ≡ word → kept l p (p
 unfolding token_at
 word_kept l p e = kept-one l p (λ z. absurd (omega (arith, e, z))) ∙ rw e refl
 
+both_true : (a b : Bool) → a && b ≡ true → (a ≡ true) × (b ≡ true)
+both_true a b e = and_parts a b e
+
 pub word_row : (block has : Bool) (l : Line) (from to : ℕ) → (eqb to (from + 1) && eqb (get_or l.kinds from 0) word) ≡ true → (row : Row) → row ≡ one_run (tag_number tag.Positional) (run from 1) → one_row has row ≡ attribute block has (kept l from to)
 word_row block has l from to t row is =
-    let w = and_parts (eqb to (from + 1)) (eqb (get_or l.kinds from 0) word) t in
+    let w = both_true (eqb to (from + 1)) (eqb (get_or l.kinds from 0) word) t in
     let one : suc (from - from) ≡ 1 = omega arith in
     ap (one_row has) is
     ∙ sym (

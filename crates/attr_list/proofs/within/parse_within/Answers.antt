@@ -3,7 +3,7 @@ use Rattle.std.proofs.Common.{refl, sym, ◌∙◌}
 use Rattle.std.proofs.lemmas.Result.{err_from_is_err_and}
 use Rattle.token.specs.Line.{line_of, most_tokens}
 use Rattle.attr_list.specs.Reading.{read_by}
-use Rattle.attr_list.proofs.Readings.{outcome-line, outcome-room, outcome-read, closed-gives, outcome-list, outcome-link}
+use Rattle.attr_list.proofs.Readings.{outcome-line, outcome-room, outcome-taken, closed-gives, outcome-list, outcome-link}
 use Rattle.attr_list.proofs.within.parse_within.Goals as goal
 
 pub returns-in_err-line : goal.returns-in_err-line
@@ -18,7 +18,7 @@ pub returns-then-kinds : goal.returns-then-kinds
 returns-then-kinds g c =
     let a = c.args in
     let l = line_of a.kinds.now a.text.now a.pairs.now in
-    outcome-read most_tokens a.entry l a.rows.now c.in_ok-line.ensures.accepted (sym c.has_room.ensures ∙ c.if-not-has_room.false) _ _ (closed-gives a.kinds.now (read_by a.entry l) a.rows.now c.if-kinds.true _ refl)
+    outcome-taken most_tokens a.entry l a.rows.now c.in_ok-line.ensures.accepted (sym c.has_room.ensures ∙ c.if-not-has_room.false) _ _ (closed-gives a.kinds.now (read_by a.entry l) a.rows.now c.if-kinds.true _ refl)
 
 pub returns-in-Link : goal.returns-in-Link
 returns-in-Link g c =

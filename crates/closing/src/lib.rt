@@ -57,7 +57,8 @@ pub fn link_macro(kinds: &[u8], pairs: &[u32]) -> LinkMacro
         escaped: false,
     };
     let last = kinds.len().saturating_sub(1);
-    // The length of a lexeme is read where it is asked for, at an EqualSigns: no `zip` with the pairs, which looks at each turn whether there is one.
+    // A lexeme's length is read by its place, and the pairs are not zipped: a `zip` asks at each turn whether there is a pair. `turn_at` is inlined, so that
+    // only an EqualSigns needs the length.
     for (i, kind) in kinds[..last].iter().enumerate() {
         match turn_at(seen, TokenPlace(i), *kind, pairs[2 * i + 1] == 1) {
             ControlFlow::Break(link) => return link,

@@ -38,7 +38,7 @@ fn first_comma(text: &[u8]) -> Option<usize>
     text.iter().position(|b| *b == b',')
 }
 
-// How many bytes stand before the first comma.
+// How many bytes stand before the first comma: all of them, if there is none.
 pub(crate) fn to_comma(text: &[u8]) -> usize
     ensures value { result ≡ position_or_len (λ b. eqb b 44) text.now }
     ensures within { result ≤ length text.now }

@@ -36,7 +36,7 @@ fn customize(mode: Mode, set: Substitutions, text: &[u8]) -> Substitutions
     ensures { result ≡ through mode set (split text.now) }
 {
     let mut next = set;
-    // Where the next part begins. By its place: with `text.split(..)` a text of commas alone took 1.6 times as long.
+    // Where the next part begins. By its place: with `text.split(..)` a text of commas alone took half as long again.
     let mut start = 0;
     while start <= text.len() {
         let rest = &text[start..];

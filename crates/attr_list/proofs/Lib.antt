@@ -5,3 +5,4 @@ pub mod RefusalLaws
 pub mod BlockLaws
 pub mod Readings
 pub mod LimitLaws
+pub mod TagLaws

@@ -6,3 +6,4 @@ pub mod Outcome
 pub mod Block
 pub mod Told
 pub mod Limit
+pub mod TaggedRows

@@ -5,3 +5,4 @@ pub mod Outcomes
 pub mod Whole
 pub mod Runs
 pub mod MarkLaws
+pub mod TagLaws

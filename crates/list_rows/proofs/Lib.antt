@@ -1,2 +1,3 @@
 pub mod ListRowsLaws
 pub mod Attributes
+pub mod TagLaws

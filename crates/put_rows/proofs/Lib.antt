@@ -3,3 +3,4 @@ pub mod Lists
 pub mod GroupRows
 pub mod Shorts
 pub mod Outcomes
+pub mod TagLaws

@@ -1,4 +1,5 @@
 pub mod Row
 pub mod Tag
+pub mod Tagged
 pub mod Diagnostic
 pub mod Words
